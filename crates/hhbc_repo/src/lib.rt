@@ -1,0 +1,10 @@
+//! Repositories of bytecode, and what they mean.
+#![tactic(auto)]
+
+mod body;
+mod code;
+mod repo;
+
+pub use body::{Assert, Body, Position, Region};
+pub use code::{Arm, Base, Code, Final, Imm, Instr, MemberKey, MemberSeq};
+pub use repo::{Class, Const, Property, Repo};

@@ -1,0 +1,10 @@
+//! Types of values, after the design comments of HHBBC: one part for each kind of value.
+#![tactic(auto)]
+
+mod literal;
+mod order;
+mod types;
+
+pub use literal::of_literal;
+pub use order::le;
+pub use types::{HType, IntPart, Leaf, ObjPart, Short, StrPart};

@@ -1,0 +1,60 @@
+/// Which ints a type has.
+#[derive(Clone, Copy, Debug, PartialEq, Eq)]
+pub enum IntPart {
+    No,
+    One(i64),
+    Any,
+}
+
+/// A string of at most 32 bytes. The bytes past its length are 0.
+#[derive(Clone, Copy, Debug, PartialEq, Eq)]
+pub struct Short {
+    pub len: u8,
+    pub bytes: [u8; 32],
+}
+
+/// Which strings a type has.
+#[derive(Clone, Copy, Debug, PartialEq, Eq)]
+pub enum StrPart {
+    No,
+    One(Short),
+    Any,
+}
+
+/// Which objects a type has: none, those of one class, those of a class and the classes below it, or all.
+#[derive(Clone, Copy, Debug, PartialEq, Eq)]
+pub enum ObjPart {
+    No,
+    Exact(u32),
+    Sub(u32),
+    Any,
+}
+
+/// The type of what stands in a container. Its own containers are whole: they hold anything.
+#[derive(Clone, Copy, Debug, PartialEq, Eq)]
+pub struct Leaf {
+    pub null: bool,
+    pub no: bool,
+    pub yes: bool,
+    pub int: IntPart,
+    pub str: StrPart,
+    pub obj: ObjPart,
+    pub vec: bool,
+    pub dict: bool,
+    pub keyset: bool,
+}
+
+/// A type: the slots that have one of its parts. `no` and `yes` are false and true.
+#[derive(Clone, Copy, Debug, PartialEq, Eq)]
+pub struct HType {
+    pub uninit: bool,
+    pub null: bool,
+    pub no: bool,
+    pub yes: bool,
+    pub int: IntPart,
+    pub str: StrPart,
+    pub obj: ObjPart,
+    pub vec: Option<Leaf>,
+    pub dict: Option<(Leaf, Leaf)>,
+    pub keyset: Option<Leaf>,
+}
