@@ -2,5 +2,7 @@
 #![tactic(auto)]
 
 mod op;
+mod words;
 
 pub use op::{Op, name_of, op_named};
+pub use words::{IncDecOp, IsTypeOp, QueryMode, SetOpOp};

@@ -58,3 +58,61 @@ pub struct HType {
     pub dict: Option<(Leaf, Leaf)>,
     pub keyset: Option<Leaf>,
 }
+
+impl Leaf {
+    /// What holds every cell.
+    pub const CELL: Leaf = Leaf {
+        null: true,
+        no: true,
+        yes: true,
+        int: IntPart::Any,
+        str: StrPart::Any,
+        obj: ObjPart::Any,
+        vec: true,
+        dict: true,
+        keyset: true,
+    };
+
+    /// What holds every key.
+    pub const KEY: Leaf = Leaf {
+        null: false,
+        no: false,
+        yes: false,
+        int: IntPart::Any,
+        str: StrPart::Any,
+        obj: ObjPart::No,
+        vec: false,
+        dict: false,
+        keyset: false,
+    };
+}
+
+impl HType {
+    /// The type without members.
+    pub const NEVER: HType = HType {
+        uninit: false,
+        null: false,
+        no: false,
+        yes: false,
+        int: IntPart::No,
+        str: StrPart::No,
+        obj: ObjPart::No,
+        vec: None,
+        dict: None,
+        keyset: None,
+    };
+
+    /// The type of all cells.
+    pub const CELL: HType = HType {
+        uninit: false,
+        null: true,
+        no: true,
+        yes: true,
+        int: IntPart::Any,
+        str: StrPart::Any,
+        obj: ObjPart::Any,
+        vec: Some(Leaf::CELL),
+        dict: Some((Leaf::KEY, Leaf::CELL)),
+        keyset: Some(Leaf::KEY),
+    };
+}

@@ -1,0 +1,97 @@
+ghost use Rattle.std.specs.Prelude.{◌≡◌, ◌↔◌, [], IsTrue};
+ghost use Rattle.type_lattice.specs.Order.{Le, LeafLe, PartLe, EntryLe, IntLe, StrLe, ObjLe, FlagLe};
+
+use crate::types::{HType, IntPart, Leaf, ObjPart, StrPart};
+
+/// Whether every slot of the one type is of the other too. Classes are compared as if none
+/// descended from another; the tree of classes comes later.
+pub fn le(a: &HType, b: &HType) -> bool
+    ensures { IsTrue result ↔ Le [] a.now b.now }
+{
+    flag_le(a.uninit, b.uninit)
+        && flag_le(a.null, b.null)
+        && flag_le(a.no, b.no)
+        && flag_le(a.yes, b.yes)
+        && int_le(a.int, b.int)
+        && str_le(a.str, b.str)
+        && obj_le(a.obj, b.obj)
+        && part_le(&a.vec, &b.vec)
+        && entry_le(&a.dict, &b.dict)
+        && part_le(&a.keyset, &b.keyset)
+}
+
+fn leaf_le(a: &Leaf, b: &Leaf) -> bool
+    ensures { IsTrue result ↔ LeafLe [] a.now b.now }
+{
+    flag_le(a.null, b.null)
+        && flag_le(a.no, b.no)
+        && flag_le(a.yes, b.yes)
+        && int_le(a.int, b.int)
+        && str_le(a.str, b.str)
+        && obj_le(a.obj, b.obj)
+        && flag_le(a.vec, b.vec)
+        && flag_le(a.dict, b.dict)
+        && flag_le(a.keyset, b.keyset)
+}
+
+fn part_le(a: &Option<Leaf>, b: &Option<Leaf>) -> bool
+    ensures { IsTrue result ↔ PartLe (LeafLe []) a.now b.now }
+{
+    match (a, b) {
+        (None, _) => true,
+        (Some(a), Some(b)) => leaf_le(a, b),
+        _ => false,
+    }
+}
+
+fn entry_le(a: &Option<(Leaf, Leaf)>, b: &Option<(Leaf, Leaf)>) -> bool
+    ensures { IsTrue result ↔ PartLe (EntryLe []) a.now b.now }
+{
+    match (a, b) {
+        (None, _) => true,
+        (Some((key, value)), Some((upper_key, upper_value))) => {
+            leaf_le(key, upper_key) && leaf_le(value, upper_value)
+        }
+        _ => false,
+    }
+}
+
+fn flag_le(a: bool, b: bool) -> bool
+    ensures { IsTrue result ↔ FlagLe a b }
+{
+    !a || b
+}
+
+fn int_le(a: IntPart, b: IntPart) -> bool
+    ensures { IsTrue result ↔ IntLe a b }
+{
+    match (a, b) {
+        (IntPart::No, _) => true,
+        (IntPart::One(i), IntPart::One(j)) => i == j,
+        (_, IntPart::Any) => true,
+        _ => false,
+    }
+}
+
+fn str_le(a: StrPart, b: StrPart) -> bool
+    ensures { IsTrue result ↔ StrLe a b }
+{
+    match (a, b) {
+        (StrPart::No, _) => true,
+        (StrPart::One(s), StrPart::One(t)) => s == t,
+        (_, StrPart::Any) => true,
+        _ => false,
+    }
+}
+
+fn obj_le(a: ObjPart, b: ObjPart) -> bool
+    ensures { IsTrue result ↔ ObjLe [] a b }
+{
+    match (a, b) {
+        (ObjPart::No, _) => true,
+        (ObjPart::Exact(c), ObjPart::Exact(d) | ObjPart::Sub(d)) => c == d,
+        (ObjPart::Sub(c), ObjPart::Sub(d)) => c == d,
+        (_, ObjPart::Any) => true,
+        _ => false,
+    }
+}
