@@ -4,5 +4,5 @@
 mod op;
 mod words;
 
-pub use op::{Op, name_of, op_named};
-pub use words::{IncDecOp, IsTypeOp, QueryMode, SetOpOp};
+pub use op::{Op, immediates, name_of, op_named};
+pub use words::{ImmKind, IncDecOp, IsTypeOp, QueryMode, SetOpOp};

@@ -1,5 +1,7 @@
 ghost use Rattle.std.specs.Prelude.{◌≡◌, ◌≢◌, MatchOption};
-ghost use Rattle.hhbc_ops.specs.Ops.{op_name};
+ghost use Rattle.hhbc_ops.specs.Ops.{op_name, kinds_of};
+
+use crate::words::ImmKind;
 
 /// An instruction, without its operands.
 #[derive(Clone, Copy, Debug, PartialEq, Eq)]
@@ -44,5 +46,16 @@ pub fn name_of(op: Op) -> &'static str
         Op::SetL => "SetL",
         Op::CGetL => "CGetL",
         Op::RetC => "RetC",
+    }
+}
+
+/// The kinds of the instruction's operands, in order.
+pub fn immediates(op: Op) -> &'static [ImmKind]
+    ensures { result.now ≡ kinds_of op }
+{
+    match op {
+        Op::Null | Op::True | Op::False | Op::PopC | Op::RetC => &[],
+        Op::Int => &[ImmKind::Int],
+        Op::SetL | Op::CGetL => &[ImmKind::Local],
     }
 }

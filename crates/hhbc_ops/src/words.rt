@@ -42,3 +42,23 @@ pub enum IsTypeOp {
     Keyset,
     Obj,
 }
+
+/// The kind of an operand.
+#[derive(Clone, Copy, Debug, PartialEq, Eq)]
+pub enum ImmKind {
+    Int,
+    Count,
+    Str,
+    Name,
+    Local,
+    Iter,
+    Label,
+    Class,
+    IncDec,
+    SetOp,
+    IsType,
+    Constraint,
+    Switch,
+    SSwitch,
+    IterLocals,
+}

@@ -3,8 +3,10 @@
 
 mod literal;
 mod order;
+mod text;
 mod types;
 
 pub use literal::of_literal;
 pub use order::le;
+pub use text::type_text;
 pub use types::{HType, IntPart, Leaf, ObjPart, Short, StrPart};
