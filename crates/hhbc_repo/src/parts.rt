@@ -1,3 +1,4 @@
+use crate::repo::Const;
 use hack_values::{Cell, Seq, Text};
 use hhbc_ops::{IncDecOp, IsTypeOp, Op, QueryMode, SetOpOp};
 use type_lattice::HType;
@@ -131,16 +132,9 @@ pub enum FinalParts {
 pub struct ClassParts {
     pub name: Text,
     pub parent: Option<Text>,
-    pub consts: Seq<ConstParts>,
+    pub consts: Seq<Const>,
     pub props: Seq<PropertyParts>,
     pub methods: Seq<BodyParts>,
-}
-
-/// A constant of a class.
-#[derive(Debug, Drop)]
-pub struct ConstParts {
-    pub name: Text,
-    pub value: Cell,
 }
 
 /// A property of a class.

@@ -1,0 +1,52 @@
+ghost use Rattle.std.specs.Prelude.{◌≡◌};
+ghost use Rattle.hhbbc_top.specs.Answer as answer;
+
+/// How a call of the program ended.
+#[derive(Clone, Copy, Debug, PartialEq, Eq)]
+pub enum Status {
+    /// All was done.
+    Done,
+    /// The words name no command.
+    Usage,
+    /// The text has more bytes than the command takes.
+    TooLong,
+    /// There was no memory.
+    NoMemory,
+    /// The text is of a form that isn't built yet.
+    NotYet,
+    /// A read failed.
+    ReadFault,
+    /// A write failed.
+    WriteFault,
+}
+
+impl Status {
+    /// The number that the process ends with.
+    pub fn number(&self) -> u8
+        ensures { result ≡ answer.number_of self.now }
+    {
+        match self {
+            Status::Done => 0,
+            Status::Usage => 64,
+            Status::TooLong => 69,
+            Status::NoMemory => 70,
+            Status::NotYet => 72,
+            Status::ReadFault => 74,
+            Status::WriteFault => 75,
+        }
+    }
+}
+
+/// The line to standard error of a status.
+pub fn line_of(status: Status) -> &'static [u8]
+    ensures { result.now ≡ answer.line_of status }
+{
+    match status {
+        Status::Done | Status::WriteFault => b"",
+        Status::Usage => b"usage\n",
+        Status::TooLong => b"too long\n",
+        Status::NoMemory => b"no memory\n",
+        Status::NotYet => b"not yet\n",
+        Status::ReadFault => b"read fault\n",
+    }
+}
