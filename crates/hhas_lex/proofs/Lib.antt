@@ -1,0 +1,4 @@
+pub mod Numbers
+pub mod Runs
+pub mod Grows
+pub mod Following
