@@ -1,4 +1,4 @@
-ghost use Rattle.std.specs.Prelude.{◌≡◌, ◌≤◌, ◌<◌, [], IsTrue, Ok, Err, IfOk, length, take, not};
+ghost use Rattle.std.specs.Prelude.{◌≡◌, ◌≤◌, ◌<◌, [], true, false, Some, Ok, IsErr, IfOk, length, take};
 ghost use Rattle.std.specs.Io.{ReadsAtMost};
 ghost use Rattle.std.specs.Io.KnownBytes.{ReadConsumes};
 ghost use Rattle.hh_io.specs.Counts.{last_count, HasCause, RisesByOne};
@@ -10,6 +10,13 @@ use crate::{Failed, Sink, Source};
 use hack_values::{NoMemory, Seq, Text};
 use std::alloc::Global;
 use std::marker::Model;
+
+// Whether the call of this number is among those that fail.
+fn is_in(failing: &Seq<u64>, call: u64) -> bool
+    ensures { result ≡ is_listed failing.now call }
+{
+    failing.as_slice().contains(&call)
+}
 
 /// A source of given bytes. Its calls are counted from 0, and those whose numbers are listed fail.
 #[derive(Drop)]
@@ -56,11 +63,30 @@ impl Source for MemSource {
 
     ghost reads = { λ s. s.calls };
 
-    fn read(&mut self, buf: &mut [u8]) -> Result<usize, Failed> {
+    fn read(&mut self, buf: &mut [u8]) -> Result<usize, Failed>
+        ensures bound { ReadsAtMost result buf.new }
+        ensures bytes { ReadConsumes (Some self.old.left) (Some self.new.left) result buf.new }
+        ensures cause { HasCause self.old.faults self.new.faults result }
+        ensures limit { 0 < length buf.old → self.new.faults ≤ last_count }
+        ensures counted { RisesByOne self.old.calls self.new.calls }
+
+        // A call with no buffer isn't counted.
+        ensures empty { length buf.old ≡ 0 → (result ≡ Ok 0) × (self.new ≡ self.old) }
+
+        // The listed calls fail.
+        ensures fails { 0 < length buf.old → is_listed self.old.failing self.old.calls ≡ true →
+            IsErr result × (self.new ≡ supply_failed self.old) }
+
+        // Every other call fills the buffer as far as the bytes go.
+        ensures gives { 0 < length buf.old → is_listed self.old.failing self.old.calls ≡ false →
+            let count = given_count self.old (length buf.old) in
+            (result ≡ Ok count) × (self.new ≡ supply_after self.old count)
+            × (take count buf.new ≡ take count self.old.left) }
+    {
         if buf.is_empty() {
             return Ok(0);
         }
-        let fails = self.failing.as_slice().contains(&self.calls);
+        let fails = is_in(&self.failing, self.calls);
         self.calls = self.calls.saturating_add(1);
         if fails {
             self.faults = self.faults.saturating_add(1);
@@ -123,11 +149,29 @@ impl Sink for MemSink {
 
     ghost faults = { λ k. k.faults };
 
-    fn write(&mut self, bytes: &[u8]) -> Result<usize, Failed> {
+    fn write(&mut self, bytes: &[u8]) -> Result<usize, Failed>
+        ensures bytes { WriteTakes (Some self.old.taken) (Some self.new.taken) result bytes.now }
+        ensures cause { HasCause self.old.faults self.new.faults result }
+        ensures limit { 0 < length bytes.now → self.new.faults ≤ last_count }
+
+        // A call with no bytes isn't counted.
+        ensures empty { length bytes.now ≡ 0 → (result ≡ Ok 0) × (self.new ≡ self.old) }
+
+        // The listed calls fail, and so do those that find no room.
+        ensures listed { 0 < length bytes.now → is_listed self.old.failing self.old.calls ≡ true →
+            IsErr result × (self.new ≡ store_failed self.old) }
+        ensures full { 0 < length bytes.now → fitting_count self.old (length bytes.now) ≡ 0 →
+            IsErr result × (self.new ≡ store_failed self.old) }
+
+        // Every other call takes as many bytes as fit.
+        ensures takes { is_listed self.old.failing self.old.calls ≡ false →
+            let count = fitting_count self.old (length bytes.now) in 0 < count →
+            (result ≡ Ok count) × (self.new ≡ store_after self.old (take count bytes.now)) }
+    {
         if bytes.is_empty() {
             return Ok(0);
         }
-        let fails = self.failing.as_slice().contains(&self.calls);
+        let fails = is_in(&self.failing, self.calls);
         self.calls = self.calls.saturating_add(1);
         let count = bytes.len().min(self.room - self.bytes.len());
         if fails || count == 0 {
