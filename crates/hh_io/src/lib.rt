@@ -7,6 +7,7 @@ mod reading;
 mod sink;
 mod source;
 mod standard;
+mod steady;
 mod writing;
 
 pub use memory::{MemSink, MemSource};
@@ -14,4 +15,5 @@ pub use reading::{ReadError, read_all};
 pub use sink::Sink;
 pub use source::{Failed, Source};
 pub use standard::{StdSink, StdSource};
+pub use steady::{SteadySink, SteadySource};
 pub use writing::write_all;
