@@ -1,0 +1,14 @@
+use Rattle.std.proofs.Common.{◌∙◌}
+use Rattle.hh_io.proofs.Taking.{Takes-trans, take-seam, rest-within}
+use Rattle.hh_io.proofs.writing.write_all.Goals as goal
+
+pub loop-at-preserved : goal.loop-at-preserved
+loop-at-preserved g c =
+    let bytes = c.args.bytes.now in
+    let count = c.in_ok-at.field-0 in
+    let taken = Takes-trans _ _ _ _ _ c.loop-at.invariant.taken c.in_ok-at.ensures.bytes.2 in
+    record {
+      within = rest-within c.loop-at.at count bytes c.loop-at.invariant.within c.in_ok-at.ensures.bytes.0;
+      taken = rw (take-seam c.loop-at.at count bytes) at taken;
+      faults = c.in_ok-at.ensures.cause.kept ∙ c.loop-at.invariant.faults;
+    }
