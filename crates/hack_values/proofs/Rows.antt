@@ -1,0 +1,53 @@
+-- Lists of cells and lists of entries as values.
+use Rattle.std.proofs.Common.{◌≡◌, ℕ, zero, suc, List, [], ◌∷◌, ◌++◌, length, refl, ap, arith, Some, slice_set, slice_get}
+use Rattle.std.specs.List.{zip}
+use Rattle.std.specs.Map.{keys_of, values_of}
+use Rattle.std.proofs.lemmas.List.{map-set}
+use Rattle.hack_values.specs.declared.key.Key.{Key}
+use Rattle.hack_values.specs.declared.cell.Cell.{Cell}
+use Rattle.hack_values.specs.Keys.{set_value}
+use Rattle.hack_values.specs.View.{val_of, vals_of}
+
+pub vals-set : (cs : List Cell) (at : ℕ) (c : Cell) → vals_of (slice_set cs at c) ≡ slice_set (vals_of cs) at (val_of c)
+vals-set cs at c = map-set val_of cs at c
+
+pub vals-get : (cs : List Cell) (at : ℕ) (c : Cell) → slice_get cs at ≡ Some c → slice_get (vals_of cs) at ≡ Some (val_of c)
+vals-get [] at c e = absurd (cc)
+vals-get (d ∷ cs) zero c e = let same : d ≡ c = cc in ap (λ x. Some (val_of x)) same
+vals-get (d ∷ cs) (suc at) c e = vals-get cs at c e
+
+pub length-vals : (cs : List Cell) → length (vals_of cs) ≡ length cs
+length-vals [] = refl
+length-vals (c ∷ cs) = ap suc (length-vals cs)
+
+pub ruleset elements = (vals-set, vals-get, length-vals)
+
+pub length-entries : (ks : List Key) (cs : List Cell) → length cs ≡ length ks → length (zip ks (vals_of cs)) ≡ length ks
+length-entries [] cs e = refl
+length-entries (k ∷ ks) [] e = absurd (omega arith)
+length-entries (k ∷ ks) (c ∷ cs) e = omega (arith, length-entries ks cs (omega arith))
+
+pub keys-entries : (ks : List Key) (cs : List Cell) → length cs ≡ length ks → keys_of (zip ks (vals_of cs)) ≡ ks
+keys-entries [] cs e = refl
+keys-entries (k ∷ ks) [] e = absurd (omega arith)
+keys-entries (k ∷ ks) (c ∷ cs) e = ap (λ rest. k ∷ rest) (keys-entries ks cs (omega arith))
+
+pub values-entries : (ks : List Key) (cs : List Cell) → length cs ≡ length ks → values_of (zip ks (vals_of cs)) ≡ vals_of cs
+values-entries [] [] e = refl
+values-entries [] (c ∷ cs) e = absurd (omega arith)
+values-entries (k ∷ ks) [] e = absurd (omega arith)
+values-entries (k ∷ ks) (c ∷ cs) e = ap (λ rest. val_of c ∷ rest) (values-entries ks cs (omega arith))
+
+pub set-entries : (ks : List Key) (cs : List Cell) (at : ℕ) (c : Cell) → zip ks (vals_of (slice_set cs at c)) ≡ set_value (zip ks (vals_of cs)) at (val_of c)
+set-entries [] cs at c = refl
+set-entries (k ∷ ks) [] at c = refl
+set-entries (k ∷ ks) (d ∷ cs) zero c = refl
+set-entries (k ∷ ks) (d ∷ cs) (suc at) c = ap (λ rest. (k, val_of d) ∷ rest) (set-entries ks cs at c)
+
+pub push-entries : (ks : List Key) (cs : List Cell) (k : Key) (c : Cell) → length cs ≡ length ks → zip (ks ++ k ∷ []) (vals_of (cs ++ c ∷ [])) ≡ zip ks (vals_of cs) ++ (k, val_of c) ∷ []
+push-entries [] [] k c e = refl
+push-entries [] (d ∷ cs) k c e = absurd (omega arith)
+push-entries (j ∷ ks) [] k c e = absurd (omega arith)
+push-entries (j ∷ ks) (d ∷ cs) k c e = ap (λ rest. (j, val_of d) ∷ rest) (push-entries ks cs k c (omega arith))
+
+pub ruleset entries = (length-entries, keys-entries, values-entries, set-entries, push-entries, vals-get, length-vals)
