@@ -1,6 +1,9 @@
 -- Lists of cells and lists of entries as values.
-use Rattle.std.proofs.Common.{◌≡◌, ℕ, zero, suc, List, [], ◌∷◌, ◌++◌, length, refl, ap, arith, Some, slice_set, slice_get}
-use Rattle.std.specs.List.{zip}
+use Rattle.std.proofs.Common.{◌≡◌, ℕ, zero, suc, ◌+◌, ◌<◌, max, List, [], ◌∷◌, ◌++◌, length, refl, ap, sym, ◌∙◌, arith, Option, Some, None, slice_set, slice_get, slice_index_or}
+use Rattle.std.specs.List.{zip, remove}
+use base.Fml.{GName}
+use borrow.Follows.Closed.{read_of}
+use mathlib.Core.Option.{Option as May}
 use Rattle.std.specs.Map.{keys_of, values_of}
 use Rattle.std.proofs.lemmas.List.{map-set}
 use Rattle.hack_values.specs.declared.key.Key.{Key}
@@ -51,3 +54,38 @@ push-entries (j ∷ ks) [] k c e = absurd (omega arith)
 push-entries (j ∷ ks) (d ∷ cs) k c e = ap (λ rest. (j, val_of d) ∷ rest) (push-entries ks cs k c (omega arith))
 
 pub ruleset entries = (length-entries, keys-entries, values-entries, set-entries, push-entries, vals-get, length-vals)
+
+-- what is lent is the same where the two functions agree
+pub lent : {D E : Type 0} (n : May GName) {F G : E → D} {v w : D} → ((x : E) → F x ≡ G x) → v ≡ w → read_of n F v ≡ read_of n G w
+lent n p q = λ i. read_of n (λ x. p x i) (q i)
+
+pub get-entries : (ks : List Key) (cs : List Cell) (at : ℕ) (k : Key) (c : Cell) → slice_get ks at ≡ Some k → slice_get cs at ≡ Some c → slice_get (zip ks (vals_of cs)) at ≡ Some (k, val_of c)
+get-entries [] cs at k c p q = absurd (cc)
+get-entries (j ∷ ks) [] at k c p q = absurd (cc)
+get-entries (j ∷ ks) (d ∷ cs) zero k c p q = let key : j ≡ k = cc in let value : d ≡ c = cc in λ t. Some (key t, val_of (value t))
+get-entries (j ∷ ks) (d ∷ cs) (suc at) k c p q = get-entries ks cs at k c p q
+
+pub entry-at : (ks : List Key) (cs : List Cell) (at : ℕ) (k : Key) (c : Cell) → length cs ≡ length ks → at < length ks → k ≡ slice_index_or ks at k → c ≡ slice_index_or cs at c → slice_get (zip ks (vals_of cs)) at ≡ Some (k, val_of c)
+entry-at [] cs at k c n h p q = absurd (omega arith)
+entry-at (j ∷ ks) [] at k c n h p q = absurd (omega arith)
+entry-at (j ∷ ks) (d ∷ cs) zero k c n h p q = λ t. Some (sym p t, val_of (sym q t))
+entry-at (j ∷ ks) (d ∷ cs) (suc at) k c n h p q = entry-at ks cs at k c (omega arith) (omega arith) p q
+
+pub ruleset entry_get = (get-entries, entry-at)
+
+pub length-remove_beside : {X : Type 0} (xs : List X) (at : ℕ) (ks : List Key) → length xs ≡ length ks → length (remove xs at) ≡ length (remove ks at)
+length-remove_beside [] zero [] e = refl
+length-remove_beside [] (suc at) [] e = refl
+length-remove_beside [] at (k ∷ ks) e = absurd (omega arith)
+length-remove_beside (x ∷ xs) at [] e = absurd (omega arith)
+length-remove_beside (x ∷ xs) zero (k ∷ ks) e = omega arith
+length-remove_beside (x ∷ xs) (suc at) (k ∷ ks) e = ap suc (length-remove_beside xs at ks (omega arith))
+
+pub remove-entries : (ks : List Key) (cs : List Cell) (at : ℕ) → length cs ≡ length ks → zip (remove ks at) (vals_of (remove cs at)) ≡ remove (zip ks (vals_of cs)) at
+remove-entries [] cs zero e = refl
+remove-entries [] cs (suc at) e = refl
+remove-entries (k ∷ ks) [] at e = absurd (omega arith)
+remove-entries (k ∷ ks) (c ∷ cs) zero e = refl
+remove-entries (k ∷ ks) (c ∷ cs) (suc at) e = ap (λ rest. (k, val_of c) ∷ rest) (remove-entries ks cs at (omega arith))
+
+pub ruleset entry_remove = (length-remove_beside, remove-entries)

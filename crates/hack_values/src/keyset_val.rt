@@ -1,6 +1,7 @@
-ghost use Rattle.std.specs.Prelude.{◌≡◌, [], length, IfOk};
+ghost use Rattle.std.specs.Prelude.{◌≡◌, [], ◌<◌, ◌↔◌, length, IfOk, IsTrue, IsSome, IfSome, Some, slice_get};
+ghost use Rattle.hack_values.specs.Keys.{place, remove_key};
 
-use crate::key::copy_keys;
+use crate::key::{copy_keys, place_of};
 use crate::{Key, NoMemory};
 use std::alloc::Global;
 use std::marker::Model;
@@ -49,6 +50,36 @@ impl KeysetVal {
         ensures { result ≡ length self.now }
     {
         self.items.len()
+    }
+
+    /// The key at a place; None where the place isn't below the length.
+    pub fn at(&self, at: usize) -> Option<&Key>
+        ensures variant { IsSome result ↔ (at < length self.now) }
+        ensures value { IfSome result (λ k. slice_get self.now at ≡ Some k.now) }
+    {
+        self.items.get(at)
+    }
+
+    /// Where the key stands; None where it isn't there. Walks over the keys.
+    pub fn find(&self, key: &Key) -> Option<usize>
+        ensures { result ≡ place key.now self.now }
+    {
+        place_of(self.items.as_slice(), key)
+    }
+
+    /// Takes the key out and closes up; false where it isn't there.
+    #[tactic(auto, using(crate::proofs::KeyLaws::removes))]
+    pub fn remove(&mut self, key: &Key) -> bool
+        ensures there { IsTrue result ↔ IsSome (place key.now self.old) }
+        ensures rest { self.new ≡ remove_key key.now self.old }
+    {
+        match place_of(self.items.as_slice(), key) {
+            Some(at) => {
+                let _ = self.items.remove(at);
+                true
+            }
+            None => false,
+        }
     }
 
     /// An equal keyset.
