@@ -1,11 +1,11 @@
 -- Laws of keys and of lists of distinct keys.
-use Rattle.std.proofs.Common.{◌≡◌, ℕ, zero, suc, Bool, true, false, List, [], ◌∷◌, ◌++◌, length, refl, ap, arith, cond, Some, None, nat_lt, subst}
+use Rattle.std.proofs.Common.{◌≡◌, ℕ, zero, suc, ◌+◌, Bool, true, false, List, [], ◌∷◌, ◌++◌, length, refl, ap, arith, cond, Some, None, nat_lt, subst}
 use Rattle.std.specs.List.{position_or_len, remove}
 use Rattle.std.proofs.lemmas.Slice.Eq.{bytes_eq-Decides}
 use Rattle.std.proofs.lemmas.Bool.Decides.{Decides-int_eq}
 use Rattle.hack_values.specs.declared.key.Key.{Key}
 use Rattle.hack_values.specs.declared.key.Key.TheVariants.{Int, Str}
-use Rattle.hack_values.specs.Keys.{key_eq, has_key, distinct, place}
+use Rattle.hack_values.specs.Keys.{key_eq, has_key, distinct, place, key_weight, keys_weight}
 
 pub key_eq-to : (j k : Key) → key_eq j k ≡ true → j ≡ k
 key_eq-to (Int a) (Int b) e = ap Int ((Decides-int_eq a b).0 e)
@@ -69,3 +69,9 @@ distinct_push k ks e f = distinct-push_absent k ks e (has_key-no_place k ks f)
 pub ruleset removes = (distinct-remove)
 
 pub ruleset pushes = (distinct_push)
+
+pub keys_weight-push : (ks : List Key) (k : Key) → keys_weight (ks ++ k ∷ []) ≡ keys_weight ks + key_weight k
+keys_weight-push [] k = omega arith
+keys_weight-push (j ∷ ks) k = omega (arith, keys_weight-push ks k)
+
+pub ruleset weighs = (keys_weight-push)

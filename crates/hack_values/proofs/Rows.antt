@@ -8,8 +8,9 @@ use Rattle.std.specs.Map.{keys_of, values_of}
 use Rattle.std.proofs.lemmas.List.{map-set}
 use Rattle.hack_values.specs.declared.key.Key.{Key}
 use Rattle.hack_values.specs.declared.cell.Cell.{Cell}
-use Rattle.hack_values.specs.Keys.{set_value}
-use Rattle.hack_values.specs.View.{val_of, vals_of}
+use Rattle.hack_values.specs.Keys.{set_value, keys_weight, key_weight}
+use Rattle.hack_values.specs.Val.{Val, weight, depth, weights, depths, entry_weights, entry_depths}
+use Rattle.hack_values.specs.View.{val_of, vals_of, vals-inj}
 
 pub vals-set : (cs : List Cell) (at : ℕ) (c : Cell) → vals_of (slice_set cs at c) ≡ slice_set (vals_of cs) at (val_of c)
 vals-set cs at c = map-set val_of cs at c
@@ -89,3 +90,49 @@ remove-entries (k ∷ ks) (c ∷ cs) zero e = refl
 remove-entries (k ∷ ks) (c ∷ cs) (suc at) e = ap (λ rest. (k, val_of c) ∷ rest) (remove-entries ks cs at (omega arith))
 
 pub ruleset entry_remove = (length-remove_beside, remove-entries)
+
+pub entry-weights : (ks : List Key) (cs : List Cell) → length cs ≡ length ks → entry_weights (zip ks (vals_of cs)) ≡ keys_weight ks + weights (vals_of cs)
+entry-weights [] [] e = omega arith
+entry-weights [] (c ∷ cs) e = absurd (omega arith)
+entry-weights (k ∷ ks) [] e = absurd (omega arith)
+entry-weights (k ∷ ks) (c ∷ cs) e = omega (arith, entry-weights ks cs (omega arith))
+
+pub entry-depths : (ks : List Key) (cs : List Cell) → length cs ≡ length ks → entry_depths (zip ks (vals_of cs)) ≡ depths (vals_of cs)
+entry-depths [] [] e = omega arith
+entry-depths [] (c ∷ cs) e = absurd (omega arith)
+entry-depths (k ∷ ks) [] e = absurd (omega arith)
+entry-depths (k ∷ ks) (c ∷ cs) e = omega (arith, entry-depths ks cs (omega arith))
+
+pub ruleset entry_sums = (entry-weights, entry-depths)
+
+pub entries-inj : (ks ls : List Key) (cs ds : List Cell) → length cs ≡ length ks → length ds ≡ length ls → zip ks (vals_of cs) ≡ zip ls (vals_of ds) → (ks ≡ ls) × (cs ≡ ds)
+entries-inj ks ls cs ds p q e = (
+  sym (keys-entries ks cs p) ∙ ap keys_of e ∙ keys-entries ls ds q,
+  vals-inj cs ds (sym (values-entries ks cs p) ∙ ap values_of e ∙ values-entries ls ds q),
+)
+
+pub ruleset by_parts = (entries-inj)
+
+pub vals-push : (cs : List Cell) (c : Cell) → vals_of (cs ++ c ∷ []) ≡ vals_of cs ++ val_of c ∷ []
+vals-push [] c = refl
+vals-push (d ∷ cs) c = ap (λ rest. val_of d ∷ rest) (vals-push cs c)
+
+pub weights-push : (vs : List Val) (v : Val) → weights (vs ++ v ∷ []) ≡ weights vs + weight v
+weights-push [] v = omega arith
+weights-push (w ∷ vs) v = omega (arith, weights-push vs v)
+
+pub depths-push : (vs : List Val) (v : Val) → depths (vs ++ v ∷ []) ≡ max (depths vs) (depth v)
+depths-push [] v = omega arith
+depths-push (w ∷ vs) v = omega (arith, depths-push vs v)
+
+pub ruleset grows = (vals-push, weights-push, depths-push)
+
+pub entry_weights-push : (es : List (Key × Val)) (k : Key) (v : Val) → entry_weights (es ++ (k, v) ∷ []) ≡ entry_weights es + (key_weight k + weight v)
+entry_weights-push [] k v = omega arith
+entry_weights-push (e ∷ es) k v = omega (arith, entry_weights-push es k v)
+
+pub entry_depths-push : (es : List (Key × Val)) (k : Key) (v : Val) → entry_depths (es ++ (k, v) ∷ []) ≡ max (entry_depths es) (depth v)
+entry_depths-push [] k v = omega arith
+entry_depths-push (e ∷ es) k v = omega (arith, entry_depths-push es k v)
+
+pub ruleset entry_grows = (entry_weights-push, entry_depths-push)

@@ -4,3 +4,4 @@ pub mod Code
 pub mod View
 pub mod Falls
 pub mod Known
+pub mod Limits

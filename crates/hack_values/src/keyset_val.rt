@@ -1,8 +1,11 @@
-ghost use Rattle.std.specs.Prelude.{◌≡◌, [], ◌<◌, ◌↔◌, length, IfOk, IsTrue, IsSome, IfSome, Some, slice_get};
-ghost use Rattle.hack_values.specs.Keys.{place, remove_key};
+ghost use Rattle.std.specs.Prelude.{◌≡◌, [], ◌<◌, ◌↔◌, length, IfOk, OnOk, OnErr, IsTrue, IsSome, IfSome, Some, Err, slice_get};
+ghost use Rattle.hack_values.specs.Keys.{place, remove_key, with_key};
+ghost use Rattle.hack_values.specs.Limits.{IsTooLarge, IsTooDeep};
+ghost use Rattle.hack_values.specs.Val.Val.{keyset};
 
-use crate::key::{copy_keys, place_of};
-use crate::{Key, NoMemory};
+use crate::key::{copy_keys, keys_weight_of, place_of};
+use crate::value_fault::MAX_WEIGHT;
+use crate::{Key, NoMemory, ValueFault};
 use std::alloc::Global;
 use std::marker::Model;
 
@@ -79,6 +82,34 @@ impl KeysetVal {
                 true
             }
             None => false,
+        }
+    }
+
+    /// Puts a key at the end, where it isn't there yet. Drops it where it is there or is refused.
+    #[tactic(auto, using(crate::proofs::KeyLaws::pushes, crate::proofs::KeyLaws::weighs))]
+    pub fn add(&mut self, key: Key) -> Result<(), ValueFault>
+        ensures ok { OnOk result (self.new ≡ with_key self.old key) }
+        ensures unchanged { OnErr result (self.new ≡ self.old) }
+        ensures large { (result ≡ Err ValueFault.TooLarge) ↔ IsTooLarge (keyset (with_key self.old key)) }
+        ensures deep { (result ≡ Err ValueFault.TooDeep) ↔ IsTooDeep (keyset (with_key self.old key)) }
+    {
+        let weight = keys_weight_of(self.items.as_slice(), 1);
+        match self.find(&key) {
+            Some(_) => {
+                if weight > MAX_WEIGHT {
+                    return Err(ValueFault::TooLarge);
+                }
+                Ok(())
+            }
+            None => {
+                if weight.saturating_add(key.weight()) > MAX_WEIGHT {
+                    return Err(ValueFault::TooLarge);
+                }
+                let Ok(()) = self.items.push(key) else {
+                    return Err(ValueFault::NoMemory);
+                };
+                Ok(())
+            }
         }
     }
 
