@@ -136,3 +136,11 @@ entry_depths-push [] k v = omega arith
 entry_depths-push (e ∷ es) k v = omega (arith, entry_depths-push es k v)
 
 pub ruleset entry_grows = (entry_weights-push, entry_depths-push)
+
+-- an element that is put back
+pub set-set_back : (cs : List Cell) (at : ℕ) (c d : Cell) → d ≡ slice_index_or cs at d → slice_set (slice_set cs at c) at d ≡ cs
+set-set_back [] at c d e = refl
+set-set_back (x ∷ cs) zero c d e = ap (λ y. y ∷ cs) e
+set-set_back (x ∷ cs) (suc at) c d e = ap (λ rest. x ∷ rest) (set-set_back cs at c d e)
+
+pub ruleset entry_back = (set-set_back)

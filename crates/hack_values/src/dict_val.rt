@@ -1,13 +1,19 @@
-ghost use Rattle.std.specs.Prelude.{◌≡◌, ◌<◌, ◌↔◌, length, IsTrue, IsSome, IfSome, Some, slice_get};
+ghost use Rattle.std.specs.Prelude.{◌≡◌, ◌<◌, ◌↔◌, ◌++◌, [], ◌∷◌, length, IsTrue, IsSome, IfSome, OnOk, OnErr, Some, None, Err, slice_get};
 ghost use Rattle.std.specs.Borrow.{sem, LendsIf};
 ghost use Rattle.std.specs.Map.{keys_of, values_of};
 ghost use Rattle.hack_values.specs.contracts.cell.Cell.{the_row as cell_row};
 ghost use Rattle.hack_values.specs.contracts.cell.DictVal.{the_row as dict_row};
-ghost use Rattle.hack_values.specs.Keys.{place, remove_entry, set_value};
+ghost use Rattle.hack_values.specs.Keys.{place, put_entry, remove_entry, set_value};
+ghost use Rattle.hack_values.specs.Limits.{IsTooLarge, IsTooDeep};
+ghost use Rattle.hack_values.specs.Val.{from_pairs};
+ghost use Rattle.hack_values.specs.Val.Val.{dict};
 ghost use Rattle.hack_values.specs.View.{val_of, item_of};
 
+use crate::cell::Known;
 use crate::key::place_of;
-use crate::{Cell, DictVal, Key};
+use crate::value_fault::{MAX_DEPTH, MAX_WEIGHT};
+use crate::{Cell, DictVal, Key, ValueFault};
+use std::mem;
 
 impl DictVal {
     /// The entry at a place; None where the place isn't below the length.
@@ -57,5 +63,69 @@ impl DictVal {
             }
             None => false,
         }
+    }
+    /// Puts a value under a key: a key that is there keeps its place, and a new one goes last.
+    /// Drops both where they are refused.
+    pub fn add_elem(&mut self, key: Key, value: Cell) -> Result<(), ValueFault>
+        ensures ok { OnOk result (self.new ≡ put_entry self.old key (val_of value)) }
+        ensures unchanged { OnErr result (self.new ≡ self.old) }
+        ensures large { (result ≡ Err ValueFault.TooLarge) ↔ IsTooLarge (dict (from_pairs (put_entry self.old key (val_of value)))) }
+        ensures deep { (result ≡ Err ValueFault.TooDeep) ↔ IsTooDeep (dict (from_pairs (put_entry self.old key (val_of value)))) }
+    {
+        match self.find(&key) {
+            Some(at) => self.replace(at, value),
+            None => self.push(key, value),
+        }
+    }
+
+    #[tactic(auto, using(crate::proofs::Rows::entries, crate::proofs::Rows::entry_back, crate::specs::Val::rows))]
+    fn replace(&mut self, at: usize, value: Cell) -> Result<(), ValueFault>
+        requires { at < length self.old }
+        ensures ok { OnOk result (self.new ≡ set_value self.old at (val_of value)) }
+        ensures unchanged { OnErr result (self.new ≡ self.old) }
+        ensures large { (result ≡ Err ValueFault.TooLarge) ↔ IsTooLarge (dict (from_pairs (set_value self.old at (val_of value)))) }
+        ensures deep { (result ≡ Err ValueFault.TooDeep) ↔ IsTooDeep (dict (from_pairs (set_value self.old at (val_of value)))) }
+    {
+        self.known = None;
+        let old = mem::replace(&mut self.vals[at], value);
+        let weight = self.weight();
+        if weight > MAX_WEIGHT {
+            self.vals[at] = old;
+            return Err(ValueFault::TooLarge);
+        }
+        let depth = self.depth();
+        if depth > MAX_DEPTH {
+            self.vals[at] = old;
+            return Err(ValueFault::TooDeep);
+        }
+        self.known = Some(Known { weight, depth });
+        Ok(())
+    }
+
+    #[tactic(auto, using(crate::proofs::Rows::entries, crate::proofs::Rows::entry_grows, crate::specs::Val::rows, crate::proofs::KeyLaws::pushes))]
+    fn push(&mut self, key: Key, value: Cell) -> Result<(), ValueFault>
+        requires { place key (keys_of self.old) ≡ None }
+        ensures ok { OnOk result (self.new ≡ self.old ++ (key, val_of value) ∷ []) }
+        ensures unchanged { OnErr result (self.new ≡ self.old) }
+        ensures large { (result ≡ Err ValueFault.TooLarge) ↔ IsTooLarge (dict (from_pairs (self.old ++ (key, val_of value) ∷ []))) }
+        ensures deep { (result ≡ Err ValueFault.TooDeep) ↔ IsTooDeep (dict (from_pairs (self.old ++ (key, val_of value) ∷ []))) }
+    {
+        let weight = self.weight().saturating_add(key.weight()).saturating_add(value.weight());
+        if weight > MAX_WEIGHT {
+            return Err(ValueFault::TooLarge);
+        }
+        let depth = self.depth().max(value.depth().saturating_add(1));
+        if depth > MAX_DEPTH {
+            return Err(ValueFault::TooDeep);
+        }
+        let Ok(()) = self.keys.push(key) else {
+            return Err(ValueFault::NoMemory);
+        };
+        let Ok(()) = self.vals.push(value) else {
+            self.keys.pop();
+            return Err(ValueFault::NoMemory);
+        };
+        self.known = Some(Known { weight, depth });
+        Ok(())
     }
 }
