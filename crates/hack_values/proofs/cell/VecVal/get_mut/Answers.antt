@@ -1,0 +1,10 @@
+use Rattle.std.proofs.Common.{◌≡◌, refl, sym, ◌∙◌, ap, rules, slice_set, arith}
+use Rattle.hack_values.specs.View.{val_of, item-vals}
+use Rattle.hack_values.proofs.Rows.{vals-set, length-vals, lent}
+use Rattle.hack_values.proofs.cell.VecVal.get_mut.Goals as goal
+
+pub returns : goal.returns
+returns c = (
+  lent _ (λ w. vals-set c.self.inside.items.items c.args.at w ∙ ap (λ l. slice_set l c.args.at (val_of w)) c.self.view_is) c.self.view_is,
+  rw (← c.self.view_is) (search (rules, length-vals, item-vals)),
+)

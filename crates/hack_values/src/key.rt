@@ -1,0 +1,93 @@
+ghost use Rattle.std.specs.Prelude.{◌≡◌, ◌+◌, ◌↔◌, length, IfOk, IsTrue};
+ghost use Rattle.hack_values.specs.Keys.{key_eq, key_weight, keys_weight, capped, place};
+
+use crate::{NoMemory, Text};
+use std::alloc::Global;
+
+/// A key of a dict, or an element of a keyset.
+#[derive(Debug, Drop)]
+pub enum Key {
+    Int(i64),
+    Str(Text),
+}
+
+impl Key {
+    /// An equal key.
+    pub fn copy(&self, alloc: Global) -> Result<Key, NoMemory>
+        ensures { IfOk result (λ k. k ≡ self.now) }
+    {
+        match self {
+            Key::Int(number) => Ok(Key::Int(*number)),
+            Key::Str(text) => Ok(Key::Str(text.copy(alloc)?)),
+        }
+    }
+
+    /// What the key adds to a container's weight.
+    pub(crate) fn weight(&self) -> u32
+        ensures { result ≡ capped (key_weight self.now) }
+    {
+        match self {
+            Key::Int(_) => 1,
+            Key::Str(text) => text_weight(text),
+        }
+    }
+}
+
+/// The weight of a text: 1 more than its bytes.
+pub(crate) fn text_weight(text: &Text) -> u32
+    ensures { result ≡ capped (1 + length text.now) }
+{
+    let len = text.bytes().len();
+    if len < 0xffff_ffff {
+        len as u32 + 1
+    } else {
+        u32::MAX
+    }
+}
+
+pub(crate) fn same_text(a: &Text, b: &Text) -> bool
+    ensures { IsTrue result ↔ (a.now ≡ b.now) }
+{
+    a.bytes() == b.bytes()
+}
+
+#[tactic(auto, using(crate::proofs::KeyLaws::keys))]
+pub(crate) fn same_key(a: &Key, b: &Key) -> bool
+    ensures value { result ≡ key_eq a.now b.now }
+    ensures same { IsTrue result ↔ (a.now ≡ b.now) }
+{
+    match (a, b) {
+        (Key::Int(m), Key::Int(n)) => *m == *n,
+        (Key::Str(s), Key::Str(t)) => same_text(s, t),
+        _ => false,
+    }
+}
+
+/// Where the key stands first. Walks over the keys.
+#[tactic(auto, using(crate::proofs::KeyLaws::keys))]
+pub(crate) fn place_of(keys: &[Key], key: &Key) -> Option<usize>
+    ensures { result ≡ place key.now keys.now }
+{
+    keys.iter().position(|other| same_key(key, other))
+}
+
+pub(crate) fn copy_keys(alloc: Global, keys: &[Key]) -> Result<Vec<Key>, NoMemory>
+    ensures { IfOk result (λ copies. copies.items ≡ keys.now) }
+{
+    let mut copies = Vec::new(alloc);
+    for key in keys {
+        copies.push(key.copy(alloc)?)?;
+    }
+    Ok(copies)
+}
+
+/// `from` and what the keys add to it.
+pub(crate) fn keys_weight_of(keys: &[Key], from: u32) -> u32
+    ensures { result ≡ capped (from + keys_weight keys.now) }
+{
+    let mut sum = from;
+    for key in keys {
+        sum = sum.saturating_add(key.weight());
+    }
+    sum
+}

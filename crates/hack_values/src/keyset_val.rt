@@ -1,0 +1,123 @@
+ghost use Rattle.std.specs.Prelude.{◌≡◌, [], ◌<◌, ◌↔◌, length, IfOk, OnOk, OnErr, IsTrue, IsSome, IfSome, Some, Err, slice_get};
+ghost use Rattle.hack_values.specs.Keys.{place, remove_key, with_key};
+ghost use Rattle.hack_values.specs.Limits.{IsTooLarge, IsTooDeep};
+ghost use Rattle.hack_values.specs.Val.Val.{keyset};
+
+use crate::key::{copy_keys, keys_weight_of, place_of};
+use crate::value_fault::MAX_WEIGHT;
+use crate::{Key, NoMemory, ValueFault};
+use std::alloc::Global;
+use std::marker::Model;
+
+/// Distinct keys, in order.
+#[derive(Debug, Drop)]
+pub struct KeysetVal {
+    items: Vec<Key>,
+}
+
+impl Model for KeysetVal {
+    ghost use Rattle.std.specs.Prelude.{List, ◌≡◌, true};
+    ghost use Rattle.std.specs.Coded.{coded_list};
+    ghost use Rattle.hack_values.specs.declared.key.Key.{Key};
+    ghost use Rattle.hack_values.specs.contracts.key.Key.{the_row};
+
+    ghost Value = { List Key };
+
+    ghost coded = { coded_list the_row.coded };
+
+    ghost use Rattle.hack_values.specs.Keys.{distinct};
+
+    ghost view = { λ a. a.items.items };
+
+    ghost invariant = { λ a. distinct a.items.items ≡ true };
+}
+
+impl KeysetVal {
+    /// The empty keyset.
+    pub fn new(alloc: Global) -> KeysetVal
+        ensures { result ≡ [] }
+    {
+        KeysetVal {
+            items: Vec::new(alloc),
+        }
+    }
+
+    pub(crate) fn keys(&self) -> &[Key]
+        ensures { result.now ≡ self.now }
+    {
+        self.items.as_slice()
+    }
+
+    /// How many keys it has.
+    pub fn len(&self) -> usize
+        ensures { result ≡ length self.now }
+    {
+        self.items.len()
+    }
+
+    /// The key at a place; None where the place isn't below the length.
+    pub fn at(&self, at: usize) -> Option<&Key>
+        ensures variant { IsSome result ↔ (at < length self.now) }
+        ensures value { IfSome result (λ k. slice_get self.now at ≡ Some k.now) }
+    {
+        self.items.get(at)
+    }
+
+    /// Where the key stands; None where it isn't there. Walks over the keys.
+    pub fn find(&self, key: &Key) -> Option<usize>
+        ensures { result ≡ place key.now self.now }
+    {
+        place_of(self.items.as_slice(), key)
+    }
+
+    /// Takes the key out and closes up; false where it isn't there.
+    #[tactic(auto, using(crate::proofs::KeyLaws::removes))]
+    pub fn remove(&mut self, key: &Key) -> bool
+        ensures there { IsTrue result ↔ IsSome (place key.now self.old) }
+        ensures rest { self.new ≡ remove_key key.now self.old }
+    {
+        match place_of(self.items.as_slice(), key) {
+            Some(at) => {
+                let _ = self.items.remove(at);
+                true
+            }
+            None => false,
+        }
+    }
+
+    /// Puts a key at the end, where it isn't there yet. Drops it where it is there or is refused.
+    #[tactic(auto, using(crate::proofs::KeyLaws::pushes, crate::proofs::KeyLaws::weighs))]
+    pub fn add(&mut self, key: Key) -> Result<(), ValueFault>
+        ensures ok { OnOk result (self.new ≡ with_key self.old key) }
+        ensures unchanged { OnErr result (self.new ≡ self.old) }
+        ensures large { (result ≡ Err ValueFault.TooLarge) ↔ IsTooLarge (keyset (with_key self.old key)) }
+        ensures deep { (result ≡ Err ValueFault.TooDeep) ↔ IsTooDeep (keyset (with_key self.old key)) }
+    {
+        let weight = keys_weight_of(self.items.as_slice(), 1);
+        match self.find(&key) {
+            Some(_) => {
+                if weight > MAX_WEIGHT {
+                    return Err(ValueFault::TooLarge);
+                }
+                Ok(())
+            }
+            None => {
+                if weight.saturating_add(key.weight()) > MAX_WEIGHT {
+                    return Err(ValueFault::TooLarge);
+                }
+                let Ok(()) = self.items.push(key) else {
+                    return Err(ValueFault::NoMemory);
+                };
+                Ok(())
+            }
+        }
+    }
+
+    /// An equal keyset.
+    pub(crate) fn copy(&self, alloc: Global) -> Result<KeysetVal, NoMemory>
+        ensures { IfOk result (λ k. k ≡ self.now) }
+    {
+        let items = copy_keys(alloc, self.items.as_slice())?;
+        Ok(KeysetVal { items })
+    }
+}

@@ -1,0 +1,23 @@
+use crate::NoMemory;
+
+/// Why a container refused a value.
+#[derive(Clone, Copy, Debug, PartialEq, Eq)]
+pub enum ValueFault {
+    /// The container would weigh more than 4,194,304.
+    TooLarge,
+    /// It would not, but it would be deeper than 64.
+    TooDeep,
+    NoMemory,
+}
+
+impl From<NoMemory> for ValueFault {
+    fn from(_refusal: NoMemory) -> ValueFault {
+        ValueFault::NoMemory
+    }
+}
+
+/// The greatest weight of a value.
+pub(crate) const MAX_WEIGHT: u32 = 4_194_304;
+
+/// The greatest depth of a value.
+pub(crate) const MAX_DEPTH: u32 = 64;
