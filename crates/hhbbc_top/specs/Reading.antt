@@ -94,8 +94,8 @@ abbrev pub codes_from : ℕ → List (List ℕ) → ℕ → List ℕ → List To
 codes_from zero locals depth name ts = None
 codes_from (suc n) locals depth name ts =
     chain (step_in locals name ts) (λ s. chain (depth_behind s.0 depth) (λ d.
-      if is_return s.0 then Some (s.0 ∷ [], s.1)
-      else behind_one s.0 (chain (word_in s.1) (λ w. codes_from n locals d w.0 w.1))))
+    if is_return s.0 then Some (s.0 ∷ [], s.1)
+    else behind_one s.0 (chain (word_in s.1) (λ w. codes_from n locals d w.0 w.1))))
 
 -- codes behind others
 abbrev pub prepended : List Step → Option (List Step × List Token) → Option (List Step × List Token)

@@ -220,8 +220,7 @@ fn closing(reader: &mut Reader) -> Result<(), ReadFault>
     reader.end()
 }
 
-fn main_in(alloc: Global, reader: &mut Reader) -> Result<Main, ReadFault>
-{
+fn main_in(alloc: Global, reader: &mut Reader) -> Result<Main, ReadFault> {
     profile(reader)?;
     heading(reader)?;
     let main = inner(alloc, reader)?;

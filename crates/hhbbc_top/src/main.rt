@@ -8,13 +8,12 @@ mod status;
 mod top;
 mod writer;
 
-pub use status::Status;
-pub use top::hhbbc;
-
 use hack_values::{NoMemory, Seq, Text};
 use hh_io::{StdSink, StdSource};
+pub use status::Status;
 use std::process::ExitCode;
 use std::{env, io};
+pub use top::hhbbc;
 
 /// The words after the program's name.
 fn words_of(rt: &HostRuntime) -> io::Result<Result<Seq<Text>, NoMemory>> {

@@ -57,7 +57,7 @@ stated_text (Some t) = codes " .returns " ++ type_text [] t
 abbrev pub body_text : Body → List ℕ
 body_text b =
     codes ".function " ++ (b.name ++ (codes "()" ++ (stated_text b.stated ++ (codes " {\n"
-      ++ (declared_text (drop b.params b.locals) ++ (flat_map (position_text b.locals) b.positions ++ codes "}\n"))))))
+    ++ (declared_text (drop b.params b.locals) ++ (flat_map (position_text b.locals) b.positions ++ codes "}\n"))))))
 
 abbrev pub text : Linked → List ℕ
 text r = codes ".profile 1;\n" ++ flat_map body_text r.functions

@@ -8,5 +8,8 @@ mod repo;
 
 pub use body::{Assert, Body, Position, Region};
 pub use code::{Arm, Base, Code, Final, Imm, Instr, MemberKey, MemberSeq};
-pub use parts::{ArmParts, AssertParts, BaseParts, BodyParts, ClassParts, CodeParts, FinalParts, ImmParts, InstrParts, ItemParts, MemberKeyParts, MemberSeqParts, PositionParts, PropertyParts, TypeParts};
+pub use parts::{
+    ArmParts, AssertParts, BaseParts, BodyParts, ClassParts, CodeParts, FinalParts, ImmParts,
+    InstrParts, ItemParts, MemberKeyParts, MemberSeqParts, PositionParts, PropertyParts, TypeParts,
+};
 pub use repo::{Class, Const, Property, Repo};

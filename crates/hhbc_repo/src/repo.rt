@@ -43,6 +43,11 @@ impl Model for Repo {
 
     ghost Value = { Linked };
 
+    ghost use Rattle.std.specs.Coded.{codes};
+    ghost use Rattle.hack_values.specs.Code.{coded_val, coded_key};
+
+    ghost coded = { Prim.hlevel (codes, coded_val, coded_key) };
+
     ghost view = { λ r. record { functions = r.functions; classes = r.classes } };
 }
 

@@ -61,6 +61,20 @@ key_leaf = record {
   keyset = false;
 }
 
+-- what holds nothing
+abbrev pub never_leaf : Leaf
+never_leaf = record {
+  null = false;
+  no = false;
+  yes = false;
+  int = ints.No;
+  str = strs.No;
+  obj = objs.No;
+  vec = false;
+  dict = false;
+  keyset = false;
+}
+
 -- the type of all cells
 abbrev pub cell : HType
 cell = record {
@@ -84,13 +98,16 @@ short_bytes s = take s.len s.bytes
 abbrev pub str_part : List ℕ → StrPart
 str_part s = if nat_le (length s) 32 then strs.One (record { len = length s; bytes = s ++ replicate (32 - length s) 0 }) else strs.Any
 
--- the least type that has the cell as a member
+-- the least type that has a scalar or an empty container as a member
 abbrev pub literal : Cell → HType
 literal cells.Null = record never { null = true }
 literal (cells.Bool false) = record never { no = true }
 literal (cells.Bool true) = record never { yes = true }
 literal (cells.Int i) = record never { int = ints.One i }
 literal (cells.Str s) = record never { str = str_part s }
+literal (cells.Vec items) = record never { vec = Some never_leaf }
+literal (cells.Dict entries) = record never { dict = Some (never_leaf, never_leaf) }
+literal (cells.Keyset elements) = record never { keyset = Some never_leaf }
 literal (cells.Obj n) = record never { obj = objs.Any }
 
 -- null, a bool or an int
@@ -99,4 +116,7 @@ IsPlain cells.Null = Unit {0}
 IsPlain (cells.Bool b) = Unit {0}
 IsPlain (cells.Int i) = Unit {0}
 IsPlain (cells.Str s) = ⊥
+IsPlain (cells.Vec items) = ⊥
+IsPlain (cells.Dict entries) = ⊥
+IsPlain (cells.Keyset elements) = ⊥
 IsPlain (cells.Obj n) = ⊥

@@ -26,6 +26,7 @@ pub fn of_literal(cell: &Cell) -> HType
             int: IntPart::One(*number),
             ..HType::NEVER
         },
-        Cell::Str(_) | Cell::Obj(_) => unreachable!(),
+        Cell::Str(_) | Cell::Vec(_) | Cell::Dict(_) | Cell::Keyset(_) | Cell::Obj(_) =>
+            unreachable!(),
     }
 }
