@@ -31,6 +31,12 @@ Gives o (Ok v) new = o ≡ Some (v, new)
 Gives o (Err OtherForm) new = o ≡ None
 Gives o (Err NoMemory) new = Unit {0}
 
+-- the same, where nothing is asked of what is left
+abbrev pub Reads : {A : Type 0} → Option A → Result A ReadFault → Type 0
+Reads o (Ok v) = o ≡ Some v
+Reads o (Err OtherForm) = o ≡ None
+Reads o (Err NoMemory) = Unit {0}
+
 -- the same of one that has no value
 abbrev pub Passes : {A : Type 0} → Option (List Token) → Result A ReadFault → List Token → Type 0
 Passes o (Ok v) new = o ≡ Some new

@@ -121,11 +121,15 @@ main_with locals x = Some (record { locals = locals; codes = x.0 }, x.1)
 abbrev pub coded : List (List ℕ) → List ℕ → List Token → Option (Main × List Token)
 coded locals name ts = chain (codes_from 200 locals 0 name ts) (main_with locals)
 
+-- declared locals, and codes behind them
+abbrev pub declared_in : List Token → Option (Main × List Token)
+declared_in ts = chain (names_from [] ts) (λ x. chain (word_in x.1) (λ w. coded x.0 w.0 w.1))
+
 -- what stands between the braces
 abbrev pub inner_in : List Token → Option (Main × List Token)
 inner_in (Directive w ∷ ts) =
     if pointwise nat_eq w (codes "declvars")
-    then chain (names_from [] ts) (λ x. chain (word_in x.1) (λ w. coded x.0 w.0 w.1))
+    then declared_in ts
     else None
 inner_in (Word w ∷ ts) = coded [] w ts
 inner_in _ = None

@@ -1,8 +1,8 @@
 //! Reads a text of the first form: one function `main` without parameters, of constants, locals and one `RetC` at its end.
 
-ghost use Rattle.std.specs.Prelude.{◌≡◌, ◌≤◌, ◌<◌, ◌^◌, [], ◌==◌, length, IfSome};
+ghost use Rattle.std.specs.Prelude.{◌≡◌, ◌≤◌, ◌<◌, ◌^◌, [], ◌==◌, length, IfSome, IfOk};
 ghost use Rattle.hhbc_repo.specs.Linking as linking;
-ghost use Rattle.hhbbc_top.specs.Pieces.{Gives, Passes};
+ghost use Rattle.hhbbc_top.specs.Pieces.{Gives, Passes, Reads};
 ghost use Rattle.hhbbc_top.specs.Reading as reading;
 
 use crate::reader::{Piece, ReadFault, Reader};
@@ -44,7 +44,8 @@ fn place_of(locals: &[Text], name: &[u8]) -> Option<usize>
 
 /// Locals behind `.declvars`, through the semicolon.
 fn names(alloc: Global, reader: &mut Reader) -> Result<Seq<Text>, ReadFault>
-    ensures { Gives (reading.names_from [] reader.old) result reader.new }
+    ensures names { Gives (reading.names_from [] reader.old) result reader.new }
+    ensures few { IfOk result (λ locals. length locals ≤ 255) }
 {
     let mut locals = Seq::new(alloc);
     for _count in 0..MAX_LOCALS {
@@ -93,13 +94,13 @@ fn step_of(reader: &mut Reader, locals: &[Text], op: Op) -> Result<Step, ReadFau
 
 /// The instruction of a name.
 fn op_of(name: &[u8]) -> Result<Op, ReadFault>
-    ensures { OpGives (reading.op_of name.now) result }
+    ensures { Reads (reading.op_of name.now) result }
 {
     op_named(name).ok_or(ReadFault::OtherForm)
 }
 
 /// The code of a name, with the operands behind the name.
-fn step(reader: &mut Reader, locals: &[Text], name: &[u8]) -> Result<Step, ReadFault>
+fn read_step(reader: &mut Reader, locals: &[Text], name: &[u8]) -> Result<Step, ReadFault>
     requires { length locals.now ≤ 255 }
     ensures { Gives (reading.step_in locals.now name.now reader.old) result reader.new }
 {
@@ -133,7 +134,7 @@ fn codes(
     let mut name = first;
     let mut depth = 0;
     for _count in 0..MAX_CODES {
-        let step = step(reader, locals, name)?;
+        let step = read_step(reader, locals, name)?;
         let Some(behind) = depth_behind(step, depth) else {
             return Err(ReadFault::OtherForm);
         };
@@ -188,6 +189,15 @@ fn heading(reader: &mut Reader) -> Result<(), ReadFault>
     }
 }
 
+/// Declared locals, and codes behind them.
+fn declared(alloc: Global, reader: &mut Reader) -> Result<Main, ReadFault>
+    ensures { Gives (reading.declared_in reader.old) result reader.new }
+{
+    let locals = names(alloc, reader)?;
+    let first = reader.word()?;
+    coded(alloc, reader, locals, first)
+}
+
 fn coded(
     alloc: Global,
     reader: &mut Reader,
@@ -220,7 +230,9 @@ fn closing(reader: &mut Reader) -> Result<(), ReadFault>
     reader.end()
 }
 
-fn main_in(alloc: Global, reader: &mut Reader) -> Result<Main, ReadFault> {
+fn main_in(alloc: Global, reader: &mut Reader) -> Result<Main, ReadFault>
+    ensures { Reads (reading.main_in reader.old) result }
+{
     profile(reader)?;
     heading(reader)?;
     let main = inner(alloc, reader)?;
@@ -237,6 +249,7 @@ fn has_comment(text: &[u8]) -> bool
 /// The function of a text of the first form.
 pub fn read(alloc: Global, text: &[u8]) -> Result<Main, ReadFault>
     requires { length text.now < 2 ^ 32 }
+    ensures { Reads (reading.main_of text.now) result }
 {
     if has_comment(text) {
         return Err(ReadFault::OtherForm);

@@ -42,6 +42,7 @@ impl From<NoMemory> for ReadFault {
 }
 
 /// Reads a text from its front, token by token.
+#[derive(Drop)]
 pub struct Reader<'a> {
     text: &'a [u8],
     lexer: Lexer<'a>,

@@ -35,8 +35,12 @@ operand_text locals (imms.Int i) = 32 ∷ signed_decimal i
 operand_text locals (imms.Local l) = 32 ∷ local_text locals l
 operand_text locals _ = []
 
+-- the line of an instruction
+abbrev pub instr_text : List (List ℕ) → Instr → List ℕ
+instr_text locals i = codes "  " ++ (op_name i.op ++ (flat_map (operand_text locals) i.imms ++ 10 ∷ []))
+
 abbrev pub code_text : List (List ℕ) → Code → List ℕ
-code_text locals (kinds.Plain i) = codes "  " ++ (op_name i.op ++ (flat_map (operand_text locals) i.imms ++ 10 ∷ []))
+code_text locals (kinds.Plain i) = instr_text locals i
 code_text locals (kinds.Member m) = []
 
 -- the assertions of a position, a line each, and the line of its code
@@ -54,10 +58,15 @@ abbrev pub stated_text : Option HType → List ℕ
 stated_text None = []
 stated_text (Some t) = codes " .returns " ++ type_text [] t
 
+abbrev pub head_text : Body → List ℕ
+head_text b = codes ".function " ++ (b.name ++ (codes "()" ++ stated_text b.stated))
+
+-- what stands between the braces
+abbrev pub inner_text : Body → List ℕ
+inner_text b = declared_text (drop b.params b.locals) ++ flat_map (position_text b.locals) b.positions
+
 abbrev pub body_text : Body → List ℕ
-body_text b =
-    codes ".function " ++ (b.name ++ (codes "()" ++ (stated_text b.stated ++ (codes " {\n"
-    ++ (declared_text (drop b.params b.locals) ++ (flat_map (position_text b.locals) b.positions ++ codes "}\n"))))))
+body_text b = head_text b ++ (codes " {\n" ++ (inner_text b ++ codes "}\n"))
 
 abbrev pub text : Linked → List ℕ
 text r = codes ".profile 1;\n" ++ flat_map body_text r.functions

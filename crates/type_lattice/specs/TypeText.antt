@@ -1,5 +1,5 @@
 -- The canonical text of a type.
-use Rattle.std.specs.Prelude.{ℕ, Bool, true, false, List, [], ◌∷◌, ◌++◌, Option, Some, None, slice_get, length, codes, nat_le, ◌==◌, ◌||◌, ◌&&◌, ◌/◌, ◌%◌, ◌+◌, ◌<◌, if◌then◌else◌}
+use Rattle.std.specs.Prelude.{ℕ, Bool, true, false, List, [], ◌∷◌, ◌++◌, Option, Some, None, slice_get, codes, nat_le, ◌==◌, ◌||◌, ◌&&◌, ◌/◌, ◌%◌, ◌+◌, if◌then◌else◌}
 use Rattle.std.specs.List.{flat_map}
 use Rattle.std.specs.Fmt.{signed_decimal}
 use Rattle.type_lattice.specs.declared.types.IntPart.{IntPart}
@@ -53,16 +53,9 @@ abbrev pub named : Option (List ℕ) → List ℕ
 named None = []
 named (Some name) = name
 
--- the name of a class, from the names of all classes
+-- the name of a class, from the names of all classes; a class past their end has none
 abbrev pub class_name : List (List ℕ) → ℕ → List ℕ
 class_name names c = named (slice_get names c)
-
--- the classes of the part have names
-abbrev pub AreNamed : List (List ℕ) → ObjPart → Type 0
-AreNamed names objs.No = Unit {0}
-AreNamed names (objs.Exact c) = c < length names
-AreNamed names (objs.Sub c) = c < length names
-AreNamed names objs.Any = Unit {0}
 
 abbrev pub obj_atoms : List (List ℕ) → ObjPart → List (List ℕ)
 obj_atoms names objs.No = []
@@ -165,17 +158,3 @@ cell_atoms names t = if has_all_cells t then codes "Cell" ∷ [] else scalar_ato
 -- a type, given the names of all classes
 abbrev pub type_text : List (List ℕ) → HType → List ℕ
 type_text names t = joined (atom t.uninit (codes "Uninit") ++ cell_atoms names t)
-
-abbrev pub LeafIsNamed : List (List ℕ) → Option Leaf → Type 0
-LeafIsNamed names None = Unit {0}
-LeafIsNamed names (Some l) = AreNamed names l.obj
-
-abbrev pub EntryIsNamed : List (List ℕ) → Option (Leaf × Leaf) → Type 0
-EntryIsNamed names None = Unit {0}
-EntryIsNamed names (Some d) = AreNamed names d.1.obj
-
--- each class of the type has a name
-pub record IsNamed (names : List (List ℕ)) (t : HType) : Type 0 where
-  pub obj : AreNamed names t.obj
-  pub vec : LeafIsNamed names t.vec
-  pub dict : EntryIsNamed names t.dict

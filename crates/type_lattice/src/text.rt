@@ -116,6 +116,15 @@ fn put_str(alloc: Global, atoms: &mut Seq<Text>, part: &StrPart) -> Result<(), N
     }
 }
 
+fn push_class(out: &mut Text, names: &[Text], class: u32) -> Result<(), NoMemory>
+    ensures { OnOk result (out.new ≡ out.old ++ text.class_name names.now class) }
+{
+    match names.get(class as usize) {
+        Some(name) => out.append(name.bytes()),
+        None => Ok(()),
+    }
+}
+
 /// Adds a word and the name of a class.
 fn put_class(
     alloc: Global,
@@ -124,11 +133,10 @@ fn put_class(
     names: &[Text],
     class: u32,
 ) -> Result<(), NoMemory>
-    requires { class < length names.now }
     ensures { OnOk result (atoms.new ≡ atoms.old ++ (word.now ++ text.class_name names.now class) ∷ []) }
 {
     let mut atom = Text::from_bytes(alloc, word)?;
-    atom.append(names[class as usize].bytes())?;
+    push_class(&mut atom, names, class)?;
     atoms.push(atom)
 }
 
@@ -138,7 +146,6 @@ fn put_obj(
     names: &[Text],
     part: ObjPart,
 ) -> Result<(), NoMemory>
-    requires { text.AreNamed names.now part }
     ensures { OnOk result (atoms.new ≡ atoms.old ++ text.obj_atoms names.now part) }
 {
     match part {
@@ -221,7 +228,6 @@ fn put_kinds(alloc: Global, atoms: &mut Seq<Text>, leaf: &Leaf) -> Result<(), No
 }
 
 fn leaf_atoms(alloc: Global, names: &[Text], leaf: &Leaf) -> Result<Seq<Text>, NoMemory>
-    requires { text.AreNamed names.now leaf.now.obj }
     ensures { IfOk result (λ atoms. atoms ≡ text.leaf_atoms names.now leaf.now) }
 {
     let mut atoms = Seq::new(alloc);
@@ -235,7 +241,6 @@ fn leaf_atoms(alloc: Global, names: &[Text], leaf: &Leaf) -> Result<Seq<Text>, N
 }
 
 fn push_leaf(alloc: Global, out: &mut Text, names: &[Text], leaf: &Leaf) -> Result<(), NoMemory>
-    requires { text.AreNamed names.now leaf.now.obj }
     ensures { OnOk result (out.new ≡ out.old ++ text.leaf_text names.now leaf.now) }
 {
     if is_whole(leaf) {
@@ -280,7 +285,6 @@ fn put_vec(
     names: &[Text],
     part: &Option<Leaf>,
 ) -> Result<(), NoMemory>
-    requires { text.LeafIsNamed names.now part.now }
     ensures { OnOk result (atoms.new ≡ atoms.old ++ text.vec_atoms names.now part.now) }
 {
     let Some(leaf) = part else {
@@ -297,7 +301,6 @@ fn put_dict(
     names: &[Text],
     part: &Option<(Leaf, Leaf)>,
 ) -> Result<(), NoMemory>
-    requires { text.EntryIsNamed names.now part.now }
     ensures { OnOk result (atoms.new ≡ atoms.old ++ text.dict_atoms names.now part.now) }
 {
     let Some((key, value)) = part else {
@@ -370,7 +373,6 @@ fn put_scalars(
     names: &[Text],
     t: &HType,
 ) -> Result<(), NoMemory>
-    requires { text.AreNamed names.now t.now.obj }
     ensures { OnOk result (atoms.new ≡ atoms.old ++ text.scalar_atoms names.now t.now) }
 {
     put(alloc, atoms, t.null, b"Null")?;
@@ -386,8 +388,6 @@ fn put_containers(
     names: &[Text],
     t: &HType,
 ) -> Result<(), NoMemory>
-    requires vec { text.LeafIsNamed names.now t.now.vec }
-    requires dict { text.EntryIsNamed names.now t.now.dict }
     ensures { OnOk result (atoms.new ≡ atoms.old ++ text.container_atoms names.now t.now) }
 {
     put_vec(alloc, atoms, names, &t.vec)?;
@@ -401,7 +401,6 @@ fn put_cells(
     names: &[Text],
     t: &HType,
 ) -> Result<(), NoMemory>
-    requires { text.IsNamed names.now t.now }
     ensures { OnOk result (atoms.new ≡ atoms.old ++ text.cell_atoms names.now t.now) }
 {
     if has_all_cells(t) {
@@ -412,9 +411,9 @@ fn put_cells(
     }
 }
 
-/// The canonical text of a type. `names` has the name of each class at its number.
+/// The canonical text of a type. `names` has the name of each class at its number; a class past its end is
+/// written without a name.
 pub fn type_text(alloc: Global, t: &HType, names: &[Text]) -> Result<Text, NoMemory>
-    requires { text.IsNamed names.now t.now }
     ensures { IfOk result (λ out. out ≡ text.type_text names.now t.now) }
 {
     let mut atoms = Seq::new(alloc);
