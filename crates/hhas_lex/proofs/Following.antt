@@ -3,9 +3,10 @@ use Rattle.std.proofs.Common.{◌≡◌, ℕ, zero, suc, ◌+◌, ◌-◌, ◌<�
 use Rattle.std.proofs.lemmas.List.{length-drop, drop-drop, take_rest}
 use Rattle.hhas_lex.specs.declared.token.TokenKind.{TokenKind}
 use Rattle.hhas_lex.specs.declared.token.TokenKind.TheVariants as kinds
-use Rattle.hhas_lex.specs.Scan.{Scanned, scan}
+use Rattle.hhas_lex.specs.Shape.{Scanned, scan}
 use Rattle.hhas_lex.specs.Tokens.{Token, Directive, Word, Local, Integer, Str, Mark, LessEqual, End, Bad, token_of, meaning, token_in, length_in, gap, first, past_first, followed, tokens, tokens_within, places, places_within, front, front_place, behind, left, left_places}
-use Rattle.hhas_lex.proofs.Grows.{is_end, split, scan-grows, scan-end}
+use Rattle.hhas_lex.proofs.Fronts.{split}
+use Rattle.hhas_lex.proofs.Grows.{is_end, scan-grows, scan-end}
 
 -- nothing follows this token
 abbrev pub is_last : Token → Bool

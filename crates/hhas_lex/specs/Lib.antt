@@ -1,3 +1,5 @@
 pub mod Bytes
-pub mod Scan
+pub mod Fronts
+pub mod Shape
+pub mod Strings
 pub mod Tokens

@@ -4,7 +4,8 @@ use Rattle.hhas_lex.specs.declared.token.TokenKind.{TokenKind}
 use Rattle.hhas_lex.specs.declared.token.TokenKind.TheVariants as kinds
 use Rattle.hhas_lex.specs.declared.token.Token as spans
 use Rattle.hhas_lex.specs.Bytes.{is_white}
-use Rattle.hhas_lex.specs.Scan.{scan, Scanned}
+use Rattle.hhas_lex.specs.Shape.{scan, Scanned}
+use Rattle.hhas_lex.specs.Strings.{value_of}
 
 pub data Token : Type 0 where
   -- the letters behind the dot
@@ -34,7 +35,7 @@ token_of kinds.Directive bytes = Directive (drop 1 bytes)
 token_of kinds.Word bytes = Word bytes
 token_of kinds.Local bytes = Local (drop 1 bytes)
 token_of (kinds.Integer i) bytes = Integer i
-token_of kinds.Str bytes = Str bytes
+token_of kinds.Str bytes = Str (value_of (drop 1 bytes))
 token_of (kinds.Mark b) bytes = Mark b
 token_of kinds.LessEqual bytes = LessEqual
 token_of kinds.End bytes = End

@@ -4,7 +4,10 @@
 mod bytes;
 mod lexer;
 mod scan;
+mod strings;
 mod token;
+mod value;
 
 pub use lexer::Lexer;
 pub use token::{LexFault, Token, TokenKind};
+pub use value::string_value;

@@ -1,144 +1,176 @@
 //! The token at the front.
 
-ghost use Rattle.std.specs.Prelude.{◌≡◌, ◌≤◌, ◌<◌, ◌^◌, ◌+◌, ℕ, take, drop, length, All, IsTrue, if◌then◌else◌, nat_le, Some, None, IfSome, [], ◌∷◌};
+ghost use Rattle.std.specs.Prelude.{◌≡◌, ◌≤◌, ◌+◌, ◌^◌, length, All, IsTrue, true, false, if◌then◌else◌, nat_le, Some, None, IfSome, ◌∷◌};
 ghost use Rattle.hhas_lex.specs.Bytes as bytes;
-ghost use Rattle.hhas_lex.specs.Scan as spec;
+ghost use Rattle.hhas_lex.specs.Shape as shape;
 
 use crate::bytes::{digits, is_digit, is_mark, is_word_start, lowers, word_bytes};
+use crate::strings::quoted;
 use crate::token::TokenKind;
 
+/// How many bytes a word has at most.
+const WORD_LIMIT: usize = 100;
+
+/// How many bytes the value of a string has at most.
+const STRING_LIMIT: usize = 1_048_576;
+
 /// The token at the front of bytes that no white space and no comment begins, and the length of its spelling.
-#[tactic(auto, unfolding(crate::specs::Scan::scan))]
+#[tactic(auto, using(crate::proofs::Scanning::end_scan, crate::proofs::Scanning::other_scan))]
 pub fn scan(text: &[u8]) -> Option<(TokenKind, usize)>
     ensures within { IfSome result (λ r. r.1 ≤ length text.now) }
-    ensures value { result ≡ spec.scan text.now }
+    ensures value { result ≡ shape.scan text.now }
 {
     let [first, rest @ ..] = text else {
         return Some((TokenKind::End, 0));
     };
     if is_word_start(*first) {
-        word(text)
-    } else if *first == b'.' {
-        directive(rest)
-    } else if *first == b'$' {
-        local(rest)
-    } else if *first == b'0' {
-        Some((TokenKind::Integer(0), 1))
-    } else if *first == b'-' {
-        negative(rest)
-    } else if is_digit(*first) {
-        positive(text)
-    } else if is_mark(*first) {
-        mark(*first, rest)
-    } else {
-        None
+        return word(*first, rest);
     }
+    if is_digit(*first) {
+        return positive(*first, rest);
+    }
+    if is_mark(*first) {
+        return mark(*first, rest);
+    }
+    if *first == b'.' {
+        return directive(rest);
+    }
+    if *first == b'$' {
+        return local(rest);
+    }
+    if *first == b'-' {
+        return negative(rest);
+    }
+    if *first == b'"' {
+        return string(rest);
+    }
+    None
 }
 
-/// The length of a word at the front; 0 where none begins.
-#[tactic(auto, unfolding(crate::specs::Scan::word_length))]
-fn word_length(text: &[u8]) -> usize
-    ensures within { result ≤ length text.now }
-    ensures value { result ≡ spec.word_length text.now }
+#[tactic(auto, using(crate::proofs::Scanning::word_scan))]
+fn word(first: u8, rest: &[u8]) -> Option<(TokenKind, usize)>
+    requires { bytes.is_word_start first ≡ true }
+    ensures within { IfSome result (λ r. r.1 ≤ 1 + length rest.now) }
+    ensures value { result ≡ shape.scan (first ∷ rest.now) }
 {
-    match text {
-        [first, rest @ ..] if is_word_start(*first) => 1 + word_bytes(rest),
-        _ => 0,
-    }
-}
-
-#[tactic(auto, unfolding(crate::specs::Scan::scan_word))]
-fn word(text: &[u8]) -> Option<(TokenKind, usize)>
-    ensures within { IfSome result (λ r. r.1 ≤ length text.now) }
-    ensures value { result ≡ spec.scan_word text.now }
-{
-    let count = word_length(text);
-    if count > 100 {
+    let count = 1 + word_bytes(rest);
+    if count > WORD_LIMIT {
         return None;
     }
     Some((TokenKind::Word, count))
 }
 
-#[tactic(auto, unfolding(crate::specs::Scan::scan_local))]
-fn local(text: &[u8]) -> Option<(TokenKind, usize)>
-    ensures within { IfSome result (λ r. r.1 ≤ 1 + length text.now) }
-    ensures value { result ≡ spec.scan_local text.now }
+/// A local, behind its dollar.
+#[tactic(auto, using(crate::proofs::Scanning::local_scan, crate::proofs::Scanning::no_local_scan))]
+fn local(rest: &[u8]) -> Option<(TokenKind, usize)>
+    ensures within { IfSome result (λ r. r.1 ≤ 1 + length rest.now) }
+    ensures value { result ≡ shape.scan (36 ∷ rest.now) }
 {
-    let count = word_length(text);
-    if count == 0 || count > 100 {
+    let [first, others @ ..] = rest else {
+        return None;
+    };
+    if !is_word_start(*first) {
+        return None;
+    }
+    let count = 1 + word_bytes(others);
+    if count > WORD_LIMIT {
         return None;
     }
     Some((TokenKind::Local, 1 + count))
 }
 
-#[tactic(auto, unfolding(crate::specs::Scan::scan_directive))]
-fn directive(text: &[u8]) -> Option<(TokenKind, usize)>
-    ensures within { IfSome result (λ r. r.1 ≤ 1 + length text.now) }
-    ensures value { result ≡ spec.scan_directive text.now }
+/// A directive, behind its dot.
+#[tactic(auto, using(crate::proofs::Scanning::directive_scan))]
+fn directive(rest: &[u8]) -> Option<(TokenKind, usize)>
+    ensures within { IfSome result (λ r. r.1 ≤ 1 + length rest.now) }
+    ensures value { result ≡ shape.scan (46 ∷ rest.now) }
 {
-    let count = lowers(text);
+    let count = lowers(rest);
     if count == 0 {
         return None;
     }
     Some((TokenKind::Directive, 1 + count))
 }
 
-/// The value of decimal digits, where it is at most 2^63.
-fn value(digits: &[u8]) -> Option<u64>
-    requires { All (λ d. IsTrue (bytes.is_digit d)) digits.now }
-    ensures { result ≡ (if nat_le (spec.number_of digits.now) (2 ^ 63) then Some (spec.number_of digits.now) else None) }
+/// The number that digits spell behind a first digit of this value, where it is at most 2^63.
+fn number_from(first: u64, digits: &[u8]) -> Option<u64>
+    requires one_digit { first ≤ 9 }
+    requires digits { All (λ d. IsTrue (bytes.is_digit d)) digits.now }
+    ensures { result ≡ (if nat_le (bytes.number_from first digits.now) (2 ^ 63) then Some (bytes.number_from first digits.now) else None) }
 {
-    let mut value = 0u64;
+    let mut number = first;
     for digit in digits {
-        if value > 922_337_203_685_477_580 {
+        if number > 922_337_203_685_477_580 {
             return None;
         }
-        value = 10 * value + (*digit - b'0') as u64;
-        if value > 9_223_372_036_854_775_808 {
+        number = 10 * number + (*digit - b'0') as u64;
+        if number > 9_223_372_036_854_775_808 {
             return None;
         }
     }
-    Some(value)
+    Some(number)
 }
 
-#[tactic(auto, unfolding(crate::specs::Scan::scan_positive))]
-fn positive(text: &[u8]) -> Option<(TokenKind, usize)>
-    ensures within { IfSome result (λ r. r.1 ≤ length text.now) }
-    ensures value { result ≡ spec.scan_positive text.now }
+#[tactic(auto, using(crate::proofs::Scanning::zero_scan, crate::proofs::Scanning::positive_scan))]
+fn positive(first: u8, rest: &[u8]) -> Option<(TokenKind, usize)>
+    requires digit { bytes.is_digit first ≡ true }
+    requires no_word { bytes.is_word_start first ≡ false }
+    ensures within { IfSome result (λ r. r.1 ≤ 1 + length rest.now) }
+    ensures value { result ≡ shape.scan (first ∷ rest.now) }
 {
-    let count = digits(text);
-    let value = value(&text[..count])?;
-    if value > 9_223_372_036_854_775_807 {
+    if first == b'0' {
+        return Some((TokenKind::Integer(0), 1));
+    }
+    let count = digits(rest);
+    let number = number_from((first - b'0') as u64, &rest[..count])?;
+    if number > 9_223_372_036_854_775_807 {
         return None;
     }
-    Some((TokenKind::Integer(value as i64), count))
+    Some((TokenKind::Integer(number as i64), 1 + count))
 }
 
-#[tactic(auto, unfolding(crate::specs::Scan::scan_negative))]
-fn negative(text: &[u8]) -> Option<(TokenKind, usize)>
-    ensures within { IfSome result (λ r. r.1 ≤ 1 + length text.now) }
-    ensures value { result ≡ spec.scan_negative text.now }
+/// A negative integer, behind its sign.
+#[tactic(auto, using(crate::proofs::Scanning::negative_scan, crate::proofs::Scanning::no_negative_scan))]
+fn negative(rest: &[u8]) -> Option<(TokenKind, usize)>
+    ensures within { IfSome result (λ r. r.1 ≤ 1 + length rest.now) }
+    ensures value { result ≡ shape.scan (45 ∷ rest.now) }
 {
-    let [first, ..] = text else {
+    let [first, others @ ..] = rest else {
         return None;
     };
     if *first < b'1' || *first > b'9' {
         return None;
     }
-    let count = digits(text);
-    let value = value(&text[..count])?;
-    let value = if value == 9_223_372_036_854_775_808 {
+    let count = digits(others);
+    let number = number_from((*first - b'0') as u64, &others[..count])?;
+    let value = if number == 9_223_372_036_854_775_808 {
         i64::MIN
     } else {
-        -(value as i64)
+        -(number as i64)
     };
-    Some((TokenKind::Integer(value), 1 + count))
+    Some((TokenKind::Integer(value), 2 + count))
 }
 
-#[tactic(auto, unfolding(crate::specs::Scan::scan_mark))]
-fn mark(first: u8, rest: &[u8]) -> Option<(TokenKind, usize)>
+/// A string, behind the quote that opens it.
+#[tactic(auto, using(crate::proofs::Scanning::quote_scan))]
+fn string(rest: &[u8]) -> Option<(TokenKind, usize)>
     ensures within { IfSome result (λ r. r.1 ≤ 1 + length rest.now) }
-    ensures value { result ≡ spec.scan_mark first rest.now }
+    ensures value { result ≡ shape.scan (34 ∷ rest.now) }
+{
+    let (count, size) = quoted(rest)?;
+    if size > STRING_LIMIT {
+        return None;
+    }
+    Some((TokenKind::Str, 1 + count))
+}
+
+#[tactic(auto, using(crate::proofs::Scanning::mark_scan, crate::proofs::Scanning::last_mark_scan))]
+fn mark(first: u8, rest: &[u8]) -> Option<(TokenKind, usize)>
+    requires mark { bytes.is_mark first ≡ true }
+    requires no_word { bytes.is_word_start first ≡ false }
+    requires no_digit { bytes.is_digit first ≡ false }
+    ensures within { IfSome result (λ r. r.1 ≤ 1 + length rest.now) }
+    ensures value { result ≡ shape.scan (first ∷ rest.now) }
 {
     match rest {
         [second, ..] if first == b'<' && *second == b'=' => Some((TokenKind::LessEqual, 2)),
