@@ -18,5 +18,5 @@ steady_after k piece =
     record {
       kept = if nat_le total k.room then k.kept ++ piece else k.kept;
       total = total;
-      room = k.room
+      room = k.room;
     }

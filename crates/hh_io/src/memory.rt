@@ -86,9 +86,9 @@ impl Source for MemSource {
         if buf.is_empty() {
             return Ok(0);
         }
-        let fails = is_in(&self.failing, self.calls);
+        let listed = is_in(&self.failing, self.calls);
         self.calls = self.calls.saturating_add(1);
-        if fails {
+        if listed {
             self.faults = self.faults.saturating_add(1);
             return Err(Failed);
         }
