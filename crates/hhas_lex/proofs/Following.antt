@@ -85,11 +85,11 @@ places-bound (suc k) (suc j) at bytes h i =
     (λ e. let less = shorter bytes e in
     ap (λ z. followed (first bytes) (at + gap bytes) z) (places-bound k j (at + past_first bytes) (drop (past_first bytes) bytes) (omega arith) (omega arith)))
 
-tokens-last : (bytes : List ℕ) → is_last (first bytes) ≡ true → tokens bytes ≡ first bytes ∷ []
+pub tokens-last : (bytes : List ℕ) → is_last (first bytes) ≡ true → tokens bytes ≡ first bytes ∷ []
 unfolding tokens
 tokens-last bytes e = followed-last (first bytes) (first bytes) _ e
 
-tokens-on : (bytes : List ℕ) → is_last (first bytes) ≡ false → tokens bytes ≡ first bytes ∷ tokens (drop (past_first bytes) bytes)
+pub tokens-on : (bytes : List ℕ) → is_last (first bytes) ≡ false → tokens bytes ≡ first bytes ∷ tokens (drop (past_first bytes) bytes)
 unfolding tokens
 tokens-on bytes e =
     let less = shorter bytes e in
@@ -110,10 +110,10 @@ places-on at bytes e =
 behind-on : {A : Type 0} (x y : A) (xs : List A) → behind (x ∷ y ∷ xs) ≡ y ∷ xs
 behind-on x y xs = refl
 
-tokens-front : (bytes : List ℕ) → front (tokens bytes) ≡ first bytes
+pub tokens-front : (bytes : List ℕ) → front (tokens bytes) ≡ first bytes
 tokens-front bytes = split (is_last (first bytes)) (λ e. ap front (tokens-last bytes e)) (λ e. ap front (tokens-on bytes e))
 
-tokens-behind-on : (bytes : List ℕ) → is_last (first bytes) ≡ false → behind (tokens bytes) ≡ tokens (drop (past_first bytes) bytes)
+pub tokens-behind-on : (bytes : List ℕ) → is_last (first bytes) ≡ false → behind (tokens bytes) ≡ tokens (drop (past_first bytes) bytes)
 tokens-behind-on bytes e =
     let r = drop (past_first bytes) bytes in
     split (is_last (first r))

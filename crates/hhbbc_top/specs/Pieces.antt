@@ -8,7 +8,19 @@ use Rattle.hhbbc_top.specs.declared.reader.Piece.TheVariants.{Directive, Word, L
 use Rattle.hhbbc_top.specs.declared.reader.ReadFault.{ReadFault}
 use Rattle.hhbbc_top.specs.declared.reader.ReadFault.TheVariants.{OtherForm, NoMemory}
 
--- the first token was taken, and what follows it is left
+-- a piece says what the token is
+abbrev pub Says : Piece → Token → Type 0
+Says (Directive w) t = t ≡ tokens.Directive w.now
+Says (Word w) t = t ≡ tokens.Word w.now
+Says (Local w) t = t ≡ tokens.Local w.now
+Says (Integer i) t = t ≡ tokens.Integer i
+Says Str t = (s : List ℕ) × (t ≡ tokens.Str s)
+Says (Mark b) t = t ≡ tokens.Mark b
+Says LessEqual t = t ≡ tokens.LessEqual
+Says End t = t ≡ tokens.End
+Says Bad t = t ≡ tokens.Bad
+
+-- the first token was taken, and what follows it is left; a last token stays
 abbrev pub Takes : List Token → Piece → List Token → Type 0
 Takes old (Directive w) new = old ≡ tokens.Directive w.now ∷ new
 Takes old (Word w) new = old ≡ tokens.Word w.now ∷ new
@@ -17,8 +29,8 @@ Takes old (Integer i) new = old ≡ tokens.Integer i ∷ new
 Takes old Str new = (s : List ℕ) × (old ≡ tokens.Str s ∷ new)
 Takes old (Mark b) new = old ≡ tokens.Mark b ∷ new
 Takes old LessEqual new = old ≡ tokens.LessEqual ∷ new
-Takes old End new = old ≡ tokens.End ∷ []
-Takes old Bad new = old ≡ tokens.Bad ∷ []
+Takes old End new = (old ≡ tokens.End ∷ []) × (new ≡ old)
+Takes old Bad new = (old ≡ tokens.Bad ∷ []) × (new ≡ old)
 
 -- what a reader answers and leaves, where the tokens give a value and the tokens behind it, or none
 abbrev pub GivesBy : {A B : Type 0} → (A → B) → Option (B × List Token) → Result A ReadFault → List Token → Type 0

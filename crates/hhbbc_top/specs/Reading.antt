@@ -90,7 +90,7 @@ behind_one step None = None
 behind_one step (Some x) = Some (step ∷ x.0, x.1)
 
 -- at most so many codes, through RetC, the first of them of this name, from this depth of the stack
-abbrev pub codes_from : ℕ → List (List ℕ) → ℕ → List ℕ → List Token → Option (List Step × List Token)
+unfoldable pub codes_from : ℕ → List (List ℕ) → ℕ → List ℕ → List Token → Option (List Step × List Token)
 codes_from zero locals depth name ts = None
 codes_from (suc n) locals depth name ts =
     chain (step_in locals name ts) (λ s. chain (depth_behind s.0 depth) (λ d.

@@ -48,7 +48,7 @@ fn names(alloc: Global, reader: &mut Reader) -> Result<Seq<Text>, ReadFault>
     ensures few { IfOk result (λ locals. length locals ≤ 255) }
 {
     let mut locals = Seq::new(alloc);
-    for _count in 0..MAX_LOCALS {
+    for count in 0..MAX_LOCALS {
         let name = reader.local()?;
         if place_of(locals.as_slice(), name).is_some() {
             return Err(ReadFault::OtherForm);
@@ -96,7 +96,10 @@ fn step_of(reader: &mut Reader, locals: &[Text], op: Op) -> Result<Step, ReadFau
 fn op_of(name: &[u8]) -> Result<Op, ReadFault>
     ensures { Reads (reading.op_of name.now) result }
 {
-    op_named(name).ok_or(ReadFault::OtherForm)
+    match op_named(name) {
+        Some(op) => Ok(op),
+        None => Err(ReadFault::OtherForm),
+    }
 }
 
 /// The code of a name, with the operands behind the name.
@@ -133,7 +136,7 @@ fn codes(
     let mut codes = Seq::new(alloc);
     let mut name = first;
     let mut depth = 0;
-    for _count in 0..MAX_CODES {
+    for count in 0..MAX_CODES {
         let step = read_step(reader, locals, name)?;
         let Some(behind) = depth_behind(step, depth) else {
             return Err(ReadFault::OtherForm);
@@ -216,7 +219,13 @@ fn inner(alloc: Global, reader: &mut Reader) -> Result<Main, ReadFault>
     ensures { Gives (reading.inner_in reader.old) result reader.new }
 {
     match reader.take() {
-        Piece::Directive(b"declvars") => declared(alloc, reader),
+        Piece::Directive(word) => {
+            if word == b"declvars".as_slice() {
+                declared(alloc, reader)
+            } else {
+                Err(ReadFault::OtherForm)
+            }
+        }
         Piece::Word(name) => coded(alloc, reader, Seq::new(alloc), name),
         _ => Err(ReadFault::OtherForm),
     }
@@ -230,6 +239,7 @@ fn closing(reader: &mut Reader) -> Result<(), ReadFault>
     reader.end()
 }
 
+#[tactic(auto, unfolding(crate::specs::Reading::main_in))]
 fn main_in(alloc: Global, reader: &mut Reader) -> Result<Main, ReadFault>
     ensures { Reads (reading.main_in reader.old) result }
 {

@@ -1,8 +1,8 @@
 //! The tokens of a text, with the bytes of their spelling.
 
-ghost use Rattle.std.specs.Prelude.{◌≡◌, ◌<◌, ◌^◌, length};
-ghost use Rattle.hhas_lex.specs.Tokens.{tokens};
-ghost use Rattle.hhbbc_top.specs.Pieces.{Takes, Gives, GivesBy, Passes, word_in, local_in, integer_in, mark_in, directive_in, ends};
+ghost use Rattle.std.specs.Prelude.{◌≡◌, ◌<◌, ◌^◌, length, drop};
+ghost use Rattle.hhas_lex.specs.Tokens.{tokens, token_of};
+ghost use Rattle.hhbbc_top.specs.Pieces.{Says, Takes, Gives, GivesBy, Passes, word_in, local_in, integer_in, mark_in, directive_in, ends};
 
 use hack_values::NoMemory;
 use hhas_lex::{Lexer, TokenKind};
@@ -38,6 +38,32 @@ impl From<NoMemory> for ReadFault {
 
     fn from(_want: NoMemory) -> ReadFault {
         ReadFault::NoMemory
+    }
+}
+
+/// The bytes behind the first one.
+fn behind_first(bytes: &[u8]) -> &[u8]
+    ensures { result.now ≡ drop 1 bytes.now }
+{
+    match bytes {
+        [_, rest @ ..] => rest,
+        [] => bytes,
+    }
+}
+
+/// What a token of a kind says, by its spelling.
+fn piece_of(kind: TokenKind, spelling: &[u8]) -> Piece<'_>
+    ensures { Says result (token_of kind spelling.now) }
+{
+    match kind {
+        TokenKind::Directive => Piece::Directive(behind_first(spelling)),
+        TokenKind::Word => Piece::Word(spelling),
+        TokenKind::Local => Piece::Local(behind_first(spelling)),
+        TokenKind::Integer(number) => Piece::Integer(number),
+        TokenKind::Mark(byte) => Piece::Mark(byte),
+        TokenKind::End => Piece::End,
+        TokenKind::Str => Piece::Str,
+        TokenKind::LessEqual => Piece::LessEqual,
     }
 }
 
@@ -78,16 +104,7 @@ impl<'a> Reader<'a> {
             return Piece::Bad;
         };
         let spelling = &self.text[token.start as usize..token.end as usize];
-        match token.kind {
-            TokenKind::Directive => Piece::Directive(&spelling[1..]),
-            TokenKind::Word => Piece::Word(spelling),
-            TokenKind::Local => Piece::Local(&spelling[1..]),
-            TokenKind::Integer(number) => Piece::Integer(number),
-            TokenKind::Mark(byte) => Piece::Mark(byte),
-            TokenKind::End => Piece::End,
-            TokenKind::Str => Piece::Str,
-            TokenKind::LessEqual => Piece::LessEqual,
-        }
+        piece_of(token.kind, spelling)
     }
 
     pub fn word(&mut self) -> Result<&'a [u8], ReadFault>

@@ -1,0 +1,4 @@
+pub mod TokenLists
+pub mod Names
+pub mod Coding
+pub mod Naming
