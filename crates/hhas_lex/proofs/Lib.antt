@@ -4,5 +4,6 @@ pub mod Fronts
 pub mod Searching
 pub mod Scanning
 pub mod Quotes
+pub mod Exact
 pub mod Grows
 pub mod Following

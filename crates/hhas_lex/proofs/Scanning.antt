@@ -1,5 +1,5 @@
 -- The token at the front, for each kind of first byte.
-use Rattle.std.proofs.Common.{◌≡◌, ℕ, zero, suc, ◌+◌, ◌-◌, ◌*◌, ◌<◌, ◌≤◌, ◌^◌, refl, sym, ap, ◌∙◌, subst, Bool, true, false, not, cond, ◌&&◌, ◌||◌, if◌then◌else◌, ◌==◌, nat_lt, nat_le, List, [], ◌∷◌, length, get_or, take, drop, Option, None, Some, pos, neg_ℤ, arith}
+use Rattle.std.proofs.Common.{◌≡◌, ℕ, zero, suc, ◌+◌, ◌-◌, ◌<◌, ◌≤◌, ◌^◌, refl, sym, ap, ◌∙◌, subst, Bool, true, false, ◌&&◌, if◌then◌else◌, ◌==◌, nat_lt, nat_le, List, [], ◌∷◌, length, get_or, take, drop, Option, None, Some, pos, neg_ℤ, arith}
 use Rattle.std.specs.List.{list_all}
 use Rattle.std.proofs.lemmas.List.{length-take-le, take_rest}
 use Rattle.std.proofs.lemmas.Bool.Decides.{nat_tests}
@@ -11,7 +11,7 @@ use Rattle.hhas_lex.specs.Fronts.{LongestFront, NoFront}
 use Rattle.hhas_lex.specs.Shape.{shape, when, is_empty, mark_shape, longest, scan, Scanned, kept, front_of_length, fits, is_int64}
 use Rattle.hhas_lex.proofs.Numbers.{is_int64-neg}
 use Rattle.hhas_lex.proofs.Fronts.{split, run_of-yes, run_of-no, front-on, name-none, name-not, run-front, empty-front}
-use Rattle.hhas_lex.proofs.Searching.{longest-at, scan-front, scan-none, shape-nil}
+use Rattle.hhas_lex.proofs.Searching.{longest-at, scan-front, scan-none}
 
 pub end_scan : (bytes : List ℕ) → length bytes < 1 → scan bytes ≡ Some (kinds.End, 0)
 unfolding scan
@@ -60,10 +60,10 @@ local-scan b bs =
     let n = run_of is_word_byte bs in
     split (is_word_start b)
     (λ e. scan-front 36 (b ∷ bs) (is_name is_word_start is_word_byte) (λ xs. kinds.Local) (suc n) shape-local (front-on is_word_start is_word_byte b bs n e (run-front is_word_byte bs))
-      ∙ answered _ (nat_le (1 + n) 100) kinds.Local (suc (suc n)) (2 + n) (word-limit bs) (omega arith)
-      ∙ chosen (is_word_start b) (answer (nat_le (1 + n) 100) kinds.Local (2 + n)) None e)
+    ∙ answered _ (nat_le (1 + n) 100) kinds.Local (suc (suc n)) (2 + n) (word-limit bs) (omega arith)
+    ∙ chosen (is_word_start b) (answer (nat_le (1 + n) 100) kinds.Local (2 + n)) None e)
     (λ e. scan-none 36 (b ∷ bs) (is_name is_word_start is_word_byte) (λ xs. kinds.Local) shape-local (name-not is_word_start is_word_byte b bs e)
-      ∙ passed (is_word_start b) (answer (nat_le (1 + n) 100) kinds.Local (2 + n)) None e)
+    ∙ passed (is_word_start b) (answer (nat_le (1 + n) 100) kinds.Local (2 + n)) None e)
 
 shape-directive : (xs : List ℕ) → shape (46 ∷ xs) ≡ when (is_name is_lower is_lower xs) kinds.Directive
 unfolding shape
@@ -79,11 +79,11 @@ directive_scan (b ∷ bs) =
     let P : ℕ → Type 0 = λ m. scan (46 ∷ b ∷ bs) ≡ (if m == 0 then None else Some (kinds.Directive, 1 + m)) in
     split (is_lower b)
     (λ e. subst P (sym (run_of-yes is_lower b bs e))
-      (scan-front 46 (b ∷ bs) (is_name is_lower is_lower) (λ xs. kinds.Directive) (suc n) shape-directive (front-on is_lower is_lower b bs n e (run-front is_lower bs))
-      ∙ answered true true kinds.Directive (suc (suc n)) (1 + suc n) refl (omega arith)
-      ∙ passed (suc n == 0) None (Some (kinds.Directive, 1 + suc n)) (suc-not-zero n)))
+    (scan-front 46 (b ∷ bs) (is_name is_lower is_lower) (λ xs. kinds.Directive) (suc n) shape-directive (front-on is_lower is_lower b bs n e (run-front is_lower bs))
+    ∙ answered true true kinds.Directive (suc (suc n)) (1 + suc n) refl (omega arith)
+    ∙ passed (suc n == 0) None (Some (kinds.Directive, 1 + suc n)) (suc-not-zero n)))
     (λ e. subst P (sym (run_of-no is_lower b bs e))
-      (scan-none 46 (b ∷ bs) (is_name is_lower is_lower) (λ xs. kinds.Directive) shape-directive (name-not is_lower is_lower b bs e)))
+    (scan-none 46 (b ∷ bs) (is_name is_lower is_lower) (λ xs. kinds.Directive) shape-directive (name-not is_lower is_lower b bs e)))
 
 shape-zero : (xs : List ℕ) → shape (48 ∷ xs) ≡ when (is_empty xs) (kinds.Integer (pos (number_of (48 ∷ xs))))
 unfolding shape
@@ -104,8 +104,8 @@ number-first b ds = ap (λ n. number_from n ds) (omega arith)
 pub positive_scan : (b : ℕ) (bs : List ℕ) → is_word_start b ≡ false → is_digit b ≡ true → (b == 48) ≡ false
     → scan (b ∷ bs)
     ≡ (if nat_lt (number_from (b - 48) (take (run_of is_digit bs) bs)) (2 ^ 63)
-      then Some (kinds.Integer (pos (number_from (b - 48) (take (run_of is_digit bs) bs))), 1 + run_of is_digit bs)
-      else None)
+    then Some (kinds.Integer (pos (number_from (b - 48) (take (run_of is_digit bs) bs))), 1 + run_of is_digit bs)
+    else None)
 positive_scan b bs e1 e2 e3 =
     let n = run_of is_digit bs in
     scan-front b bs (list_all is_digit) (λ xs. kinds.Integer (pos (number_of (b ∷ xs)))) n (shape-positive b e1 e2 e3) (run-front is_digit bs)
@@ -122,10 +122,10 @@ minus-scan = scan-none 45 [] (is_name is_leading_digit is_digit) (λ xs. kinds.I
 negative-scan : (b : ℕ) (bs : List ℕ)
     → scan (45 ∷ b ∷ bs)
     ≡ (if is_leading_digit b
-      then (if nat_le (number_from (b - 48) (take (run_of is_digit bs) bs)) (2 ^ 63)
-        then Some (kinds.Integer (neg_ℤ (pos (number_from (b - 48) (take (run_of is_digit bs) bs)))), 2 + run_of is_digit bs)
-        else None)
-      else None)
+    then (if nat_le (number_from (b - 48) (take (run_of is_digit bs) bs)) (2 ^ 63)
+    then Some (kinds.Integer (neg_ℤ (pos (number_from (b - 48) (take (run_of is_digit bs) bs)))), 2 + run_of is_digit bs)
+    else None)
+    else None)
 negative-scan b bs =
     let n = run_of is_digit bs in
     let kind : List ℕ → TokenKind = λ xs. kinds.Integer (neg_ℤ (pos (number_of xs))) in
@@ -133,11 +133,11 @@ negative-scan b bs =
     let read = answer (nat_le v (2 ^ 63)) (kinds.Integer (neg_ℤ (pos v))) (2 + n) in
     split (is_leading_digit b)
     (λ e. scan-front 45 (b ∷ bs) (is_name is_leading_digit is_digit) kind (suc n) shape-negative (front-on is_leading_digit is_digit b bs n e (run-front is_digit bs))
-      ∙ ap (λ u. answer (is_int64 (neg_ℤ (pos u))) (kinds.Integer (neg_ℤ (pos u))) (suc (suc n))) (number-first b (take n bs))
-      ∙ answered _ (nat_le v (2 ^ 63)) (kinds.Integer (neg_ℤ (pos v))) (suc (suc n)) (2 + n) (is_int64-neg v) (omega arith)
-      ∙ chosen (is_leading_digit b) read None e)
+    ∙ ap (λ u. answer (is_int64 (neg_ℤ (pos u))) (kinds.Integer (neg_ℤ (pos u))) (suc (suc n))) (number-first b (take n bs))
+    ∙ answered _ (nat_le v (2 ^ 63)) (kinds.Integer (neg_ℤ (pos v))) (suc (suc n)) (2 + n) (is_int64-neg v) (omega arith)
+    ∙ chosen (is_leading_digit b) read None e)
     (λ e. scan-none 45 (b ∷ bs) (is_name is_leading_digit is_digit) kind shape-negative (name-not is_leading_digit is_digit b bs e)
-      ∙ passed (is_leading_digit b) read None e)
+    ∙ passed (is_leading_digit b) read None e)
 
 shape-string : (xs : List ℕ) → shape (34 ∷ xs) ≡ when (closes xs) kinds.Str
 unfolding shape
@@ -228,8 +228,8 @@ no_local_scan (b ∷ bs) h = absurd (omega arith)
 pub local_scan : (bytes : List ℕ) → 1 ≤ length bytes
     → scan (36 ∷ bytes)
     ≡ (if is_word_start (get_or bytes 0 0)
-      then (if nat_le (1 + run_of is_word_byte (others bytes)) 100 then Some (kinds.Local, 1 + (1 + run_of is_word_byte (others bytes))) else None)
-      else None)
+    then (if nat_le (1 + run_of is_word_byte (others bytes)) 100 then Some (kinds.Local, 1 + (1 + run_of is_word_byte (others bytes))) else None)
+    else None)
 local_scan [] h = absurd (omega arith)
 local_scan (b ∷ bs) h =
     local-scan b bs
@@ -249,10 +249,10 @@ negative-answer b r =
 pub negative_scan : (bytes : List ℕ) → 1 ≤ length bytes
     → scan (45 ∷ bytes)
     ≡ (if is_leading_digit (get_or bytes 0 0)
-      then (if nat_le (number_from (get_or bytes 0 0 - 48) (take (run_of is_digit (others bytes)) (others bytes))) (2 ^ 63)
-        then Some (kinds.Integer (neg_ℤ (pos (number_from (get_or bytes 0 0 - 48) (take (run_of is_digit (others bytes)) (others bytes))))), 2 + run_of is_digit (others bytes))
-        else None)
-      else None)
+    then (if nat_le (number_from (get_or bytes 0 0 - 48) (take (run_of is_digit (others bytes)) (others bytes))) (2 ^ 63)
+    then Some (kinds.Integer (neg_ℤ (pos (number_from (get_or bytes 0 0 - 48) (take (run_of is_digit (others bytes)) (others bytes))))), 2 + run_of is_digit (others bytes))
+    else None)
+    else None)
 negative_scan [] h = absurd (omega arith)
 negative_scan (b ∷ bs) h = negative-scan b bs ∙ ap (negative-answer b) (others-cons b bs)
 
