@@ -18,7 +18,6 @@ pub struct Lexer<'a> {
 
 impl<'a> Model for Lexer<'a> {
     ghost use Rattle.std.specs.Prelude.{◌≤◌, ◌<◌, ◌^◌, length};
-    ghost use Rattle.hhas_lex.specs.Shape.{IsTokenAt, NoToken};
     ghost use Rattle.hhas_lex.specs.Tokens.{Cursor};
 
     ghost Value = { Cursor };
@@ -71,6 +70,7 @@ impl<'a> Lexer<'a> {
         ensures longest { IfOk result (λ t. IsTokenAt (drop t.start self.old.text) t.kind (t.end - t.start)) }
         ensures none { IfErr result (λ f. NoToken (drop f.at self.old.text)) }
 
+        // The places where the tokens begin go along.
         ensures places { IfOk result (λ t. (front_place (left_places self.old) ≡ t.start) × (left_places self.new ≡ behind (left_places self.old))) }
         ensures fault_at { IfErr result (λ f. (f.at ≡ self.old.at + gap (drop self.old.at self.old.text)) × (front_place (left_places self.old) ≡ f.at)) }
     {

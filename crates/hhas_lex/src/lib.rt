@@ -11,3 +11,6 @@ mod value;
 pub use lexer::Lexer;
 pub use token::{LexFault, Token, TokenKind};
 pub use value::string_value;
+
+#[cfg(test)]
+mod tests;
