@@ -86,11 +86,11 @@ places-bound (suc k) (suc j) at bytes h i =
     (λ e. let less = shorter bytes e in
     ap (λ z. followed (first bytes) (at + gap bytes) z) (places-bound k j (at + past_first bytes) (drop (past_first bytes) bytes) (omega arith) (omega arith)))
 
-tokens-last : (bytes : List ℕ) → is_last (first bytes) ≡ true → tokens bytes ≡ first bytes ∷ []
+pub tokens-last : (bytes : List ℕ) → is_last (first bytes) ≡ true → tokens bytes ≡ first bytes ∷ []
 unfolding tokens
 tokens-last bytes e = followed-last (first bytes) (first bytes) _ e
 
-tokens-on : (bytes : List ℕ) → is_last (first bytes) ≡ false → tokens bytes ≡ first bytes ∷ tokens (drop (past_first bytes) bytes)
+pub tokens-on : (bytes : List ℕ) → is_last (first bytes) ≡ false → tokens bytes ≡ first bytes ∷ tokens (drop (past_first bytes) bytes)
 unfolding tokens
 tokens-on bytes e =
     let less = shorter bytes e in
@@ -163,7 +163,7 @@ found text at start k n s e =
 place-front : (at : ℕ) (bytes : List ℕ) → front_place (places at bytes) ≡ at + gap bytes
 place-front at bytes = split (is_last (first bytes)) (λ e. ap front_place (places-last at bytes e)) (λ e. ap front_place (places-on at bytes e))
 
-tokens-nil : tokens [] ≡ End ∷ []
+pub tokens-nil : tokens [] ≡ End ∷ []
 tokens-nil = tokens-last [] (ap (λ z. is_last (token_in z [])) scan-end) ∙ ap (λ z. token_in z [] ∷ []) scan-end
 
 places-nil : (at : ℕ) → places at [] ≡ at ∷ []

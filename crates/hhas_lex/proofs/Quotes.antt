@@ -43,7 +43,7 @@ broken-on m [] (suc n) (suc j) h e = e
 broken-on m (b ∷ bs) (suc n) (suc j) h e = broken-on (step m b) bs n j (omega arith) e
 
 -- what follows the closing quote is no part of the string
-closed-on : (m : Mode) (bs : List ℕ) (n j : ℕ) → n < j → j ≤ length bs → fold step m (take n bs) ≡ Closed → fold step m (take j bs) ≡ Broken
+pub closed-on : (m : Mode) (bs : List ℕ) (n j : ℕ) → n < j → j ≤ length bs → fold step m (take n bs) ≡ Closed → fold step m (take j bs) ≡ Broken
 closed-on m bs n zero h le e = absurd (omega arith)
 closed-on m [] n (suc j) h le e = absurd (omega arith)
 closed-on m (b ∷ bs) zero (suc j) h le e = ap (λ (z : Mode). fold step (step z b) (take j bs)) e ∙ broken-stays (take j bs)

@@ -18,7 +18,7 @@ unfolding scan
 end_scan [] h = refl
 end_scan (b ∷ bs) h = absurd (omega arith)
 
-abbrev answer : Bool → TokenKind → ℕ → Scanned
+abbrev pub answer : Bool → TokenKind → ℕ → Scanned
 answer t kind n = if t then Some (kind, n) else None
 
 -- the same test and length in another form
@@ -54,7 +54,7 @@ shape-local xs = refl
 dollar-scan : scan (36 ∷ []) ≡ None
 dollar-scan = scan-none 36 [] (is_name is_word_start is_word_byte) (λ xs. kinds.Local) shape-local (name-none is_word_start is_word_byte)
 
-local-scan : (b : ℕ) (bs : List ℕ)
+pub local-scan : (b : ℕ) (bs : List ℕ)
     → scan (36 ∷ b ∷ bs) ≡ (if is_word_start b then (if nat_le (1 + run_of is_word_byte bs) 100 then Some (kinds.Local, 2 + run_of is_word_byte bs) else None) else None)
 local-scan b bs =
     let n = run_of is_word_byte bs in
@@ -69,7 +69,7 @@ shape-directive : (xs : List ℕ) → shape (46 ∷ xs) ≡ when (is_name is_low
 unfolding shape
 shape-directive xs = refl
 
-suc-not-zero : (n : ℕ) → (suc n == 0) ≡ false
+pub suc-not-zero : (n : ℕ) → (suc n == 0) ≡ false
 suc-not-zero n = grind (arith, nat_tests)
 
 pub directive_scan : (bs : List ℕ) → scan (46 ∷ bs) ≡ (if run_of is_lower bs == 0 then None else Some (kinds.Directive, 1 + run_of is_lower bs))
@@ -98,7 +98,7 @@ unfolding shape
 shape-positive b e1 e2 e3 xs = rw (e1, e2, e3) refl
 
 -- a number by its first digit and the others
-number-first : (b : ℕ) (ds : List ℕ) → number_of (b ∷ ds) ≡ number_from (b - 48) ds
+pub number-first : (b : ℕ) (ds : List ℕ) → number_of (b ∷ ds) ≡ number_from (b - 48) ds
 number-first b ds = ap (λ n. number_from n ds) (omega arith)
 
 pub positive_scan : (b : ℕ) (bs : List ℕ) → is_word_start b ≡ false → is_digit b ≡ true → (b == 48) ≡ false
@@ -119,7 +119,7 @@ shape-negative xs = refl
 minus-scan : scan (45 ∷ []) ≡ None
 minus-scan = scan-none 45 [] (is_name is_leading_digit is_digit) (λ xs. kinds.Integer (neg_ℤ (pos (number_of xs)))) shape-negative (name-none is_leading_digit is_digit)
 
-negative-scan : (b : ℕ) (bs : List ℕ)
+pub negative-scan : (b : ℕ) (bs : List ℕ)
     → scan (45 ∷ b ∷ bs)
     ≡ (if is_leading_digit b
     then (if nat_le (number_from (b - 48) (take (run_of is_digit bs) bs)) (2 ^ 63)
@@ -143,7 +143,7 @@ shape-string : (xs : List ℕ) → shape (34 ∷ xs) ≡ when (closes xs) kinds.
 unfolding shape
 shape-string xs = refl
 
-string-scan : (bs : List ℕ) (n : ℕ) → LongestFront closes bs n
+pub string-scan : (bs : List ℕ) (n : ℕ) → LongestFront closes bs n
     → scan (34 ∷ bs) ≡ (if nat_le (length (value_of (take n bs))) 1048576 then Some (kinds.Str, 1 + n) else None)
 string-scan bs n w =
     scan-front 34 bs closes (λ xs. kinds.Str) n shape-string w
@@ -152,7 +152,7 @@ string-scan bs n w =
 pub quote_scan : (bs : List ℕ) → NoFront closes bs → scan (34 ∷ bs) ≡ None
 quote_scan bs w = scan-none 34 bs closes (λ xs. kinds.Str) shape-string w
 
-shape-mark : (b : ℕ) → is_word_start b ≡ false → is_digit b ≡ false → is_mark b ≡ true → (xs : List ℕ) → shape (b ∷ xs) ≡ mark_shape b xs
+pub shape-mark : (b : ℕ) → is_word_start b ≡ false → is_digit b ≡ false → is_mark b ≡ true → (xs : List ℕ) → shape (b ∷ xs) ≡ mark_shape b xs
 unfolding shape
 shape-mark b e1 e2 e3 xs = rw (e1, e2, e3) refl
 
@@ -163,13 +163,13 @@ unfolding scan
 scan-longest b bs n kind l s f =
     ap (front_of_length (b ∷ bs)) l ∙ ap (λ (o : Option TokenKind). kept o (b ∷ bs) n) s ∙ ap (λ t. answer t kind n) f
 
-last-mark-scan : (b : ℕ) → is_word_start b ≡ false → is_digit b ≡ false → is_mark b ≡ true → scan (b ∷ []) ≡ Some (kinds.Mark b, 1)
+pub last-mark-scan : (b : ℕ) → is_word_start b ≡ false → is_digit b ≡ false → is_mark b ≡ true → scan (b ∷ []) ≡ Some (kinds.Mark b, 1)
 last-mark-scan b e1 e2 e3 =
     scan-longest b [] 1 (kinds.Mark b)
     (longest-at 1 1 (b ∷ []) (kinds.Mark b) (omega arith) (shape-mark b e1 e2 e3 []) (λ m lt le. absurd (omega arith)))
     (shape-mark b e1 e2 e3 []) refl
 
-one-mark : (b c : ℕ) (bs : List ℕ) → ((xs : List ℕ) → shape (b ∷ xs) ≡ mark_shape b xs) → (b == 60 && c == 61) ≡ false → scan (b ∷ c ∷ bs) ≡ Some (kinds.Mark b, 1)
+pub one-mark : (b c : ℕ) (bs : List ℕ) → ((xs : List ℕ) → shape (b ∷ xs) ≡ mark_shape b xs) → (b == 60 && c == 61) ≡ false → scan (b ∷ c ∷ bs) ≡ Some (kinds.Mark b, 1)
 one-mark b c bs s e =
     scan-longest b (c ∷ bs) 1 (kinds.Mark b)
     (longest-at (suc (suc (length bs))) 1 (b ∷ c ∷ bs) (kinds.Mark b) (omega arith) (s []) longer)
@@ -194,7 +194,7 @@ two-marks b c bs s e =
     longer [] (suc (suc (suc m))) lt le = absurd (omega arith)
     longer (d ∷ ds) (suc (suc (suc m))) lt le = s (c ∷ d ∷ take m ds) ∙ ap (λ t. when (t && false) kinds.LessEqual) e
 
-mark-scan : (b c : ℕ) (bs : List ℕ) → is_word_start b ≡ false → is_digit b ≡ false → is_mark b ≡ true
+pub mark-scan : (b c : ℕ) (bs : List ℕ) → is_word_start b ≡ false → is_digit b ≡ false → is_mark b ≡ true
     → scan (b ∷ c ∷ bs) ≡ (if b == 60 && c == 61 then Some (kinds.LessEqual, 2) else Some (kinds.Mark b, 1))
 mark-scan b c bs e1 e2 e3 =
     let t = b == 60 && c == 61 in
@@ -207,7 +207,7 @@ shape-other : (b : ℕ) → is_word_start b ≡ false → is_digit b ≡ false �
 unfolding shape
 shape-other b e1 e2 e3 e4 e5 e6 e7 xs = rw (e1, e2, e3, e4, e5, e6, e7) refl
 
-other-scan : (b : ℕ) (bs : List ℕ) → is_word_start b ≡ false → is_digit b ≡ false → is_mark b ≡ false
+pub other-scan : (b : ℕ) (bs : List ℕ) → is_word_start b ≡ false → is_digit b ≡ false → is_mark b ≡ false
     → (b == 46) ≡ false → (b == 36) ≡ false → (b == 45) ≡ false → (b == 34) ≡ false → scan (b ∷ bs) ≡ None
 other-scan b bs e1 e2 e3 e4 e5 e6 e7 =
     scan-none b bs (λ xs. false) (λ xs. kinds.End) (shape-other b e1 e2 e3 e4 e5 e6 e7) (record { none = λ m le. refl })

@@ -119,7 +119,13 @@ const HEAD: [(TokenKind, u32, u32); 8] = [
 ];
 
 /// The bytes, some of one byte in a row behind them, and the rest.
-fn text(rt: &HostRuntime, front: &[u8], byte: u8, times: usize, rest: &[u8]) -> Result<Vec<u8>, Fail> {
+fn text(
+    rt: &HostRuntime,
+    front: &[u8],
+    byte: u8,
+    times: usize,
+    rest: &[u8],
+) -> Result<Vec<u8>, Fail> {
     let mut text = Vec::from_slice(rt.alloc(), front)?;
     for _ in 0..times {
         text.push(byte)?;
@@ -164,7 +170,10 @@ fn names_have_100_bytes_at_most(rt: HostRuntime) -> Result<(), Fail> {
 #[test]
 fn string_values_have_1048576_bytes_at_most(rt: HostRuntime) -> Result<(), Fail> {
     let most = text(&rt, b"\"\\x4a", b'a', 1_048_575, b"\"")?;
-    check(&rt, &ends(most.as_slice(), &[(Str, 0, 1_048_581)], 1_048_581));
+    check(
+        &rt,
+        &ends(most.as_slice(), &[(Str, 0, 1_048_581)], 1_048_581),
+    );
     let long = text(&rt, b"\"\\x4a", b'a', 1_048_576, b"\"")?;
     check(&rt, &faults(long.as_slice(), &[], 0));
     let unfinished = text(&rt, b"\"", b'a', 4_194_303, b"")?;
@@ -178,7 +187,10 @@ fn strings_have_values(rt: HostRuntime) -> Result<(), Fail> {
         (b"\"\"".as_slice(), b"".as_slice()),
         (b"\"a ~\"".as_slice(), b"a ~".as_slice()),
         (b"\"\\\"\\\\\\n\"".as_slice(), b"\"\\\n".as_slice()),
-        (b"\"\\x0a\\xfF\\xEb0\"".as_slice(), b"\n\xff\xeb0".as_slice()),
+        (
+            b"\"\\x0a\\xfF\\xEb0\"".as_slice(),
+            b"\n\xff\xeb0".as_slice(),
+        ),
     ];
     for (text, value) in &cases {
         assert!(rt; text.len() < 100);
@@ -192,7 +204,13 @@ fn strings_have_values(rt: HostRuntime) -> Result<(), Fail> {
         let found = string_value(rt.alloc(), text, token)?;
         assert_eq!(rt; found.bytes(), *value);
     }
-    for text in &[b"\"\\t\"".as_slice(), b"\"\\x4\"".as_slice(), b"\"\\xg0\"".as_slice(), b"\"\n\"".as_slice(), b"\"\x7f\"".as_slice()] {
+    for text in &[
+        b"\"\\t\"".as_slice(),
+        b"\"\\x4\"".as_slice(),
+        b"\"\\xg0\"".as_slice(),
+        b"\"\n\"".as_slice(),
+        b"\"\x7f\"".as_slice(),
+    ] {
         check(&rt, &faults(text, &[], 0));
     }
     Ok(())
