@@ -1,11 +1,12 @@
 -- What stands at the front of a text's tokens, and what behind it.
-use Rattle.std.proofs.Common.{◌≡◌, ℕ, zero, suc, ◌+◌, ◌-◌, ◌<◌, refl, sym, ◌∙◌, ap, Bool, true, false, List, [], ◌∷◌, length, drop, take, Some, None, arith}
+use Rattle.std.proofs.Common.{◌≡◌, ℕ, zero, suc, ◌+◌, ◌-◌, ◌<◌, refl, sym, ◌∙◌, ap, subst, Bool, true, false, List, [], ◌∷◌, length, drop, take, Some, None, arith}
 use Rattle.std.proofs.lemmas.List.{length-drop, drop-drop, take_rest}
 use Rattle.hhas_lex.specs.declared.token.TokenKind.{TokenKind}
 use Rattle.hhas_lex.specs.declared.token.TokenKind.TheVariants as kinds
-use Rattle.hhas_lex.specs.Shape.{Scanned, scan}
+use Rattle.hhas_lex.specs.Shape.{Scanned, scan, IsTokenAt, NoToken}
 use Rattle.hhas_lex.specs.Tokens.{Token, Directive, Word, Local, Integer, Str, Mark, LessEqual, End, Bad, token_of, meaning, token_in, length_in, gap, first, past_first, followed, tokens, tokens_within, places, places_within, front, front_place, behind, left, left_places}
 use Rattle.hhas_lex.proofs.Fronts.{split}
+use Rattle.hhas_lex.proofs.Exact.{scan-some, scan-nothing}
 use Rattle.hhas_lex.proofs.Grows.{is_end, scan-grows, scan-end}
 
 -- nothing follows this token
@@ -162,7 +163,7 @@ found text at start k n s e =
 place-front : (at : ℕ) (bytes : List ℕ) → front_place (places at bytes) ≡ at + gap bytes
 place-front at bytes = split (is_last (first bytes)) (λ e. ap front_place (places-last at bytes e)) (λ e. ap front_place (places-on at bytes e))
 
-tokens-nil : tokens [] ≡ End ∷ []
+pub tokens-nil : tokens [] ≡ End ∷ []
 tokens-nil = tokens-last [] (ap (λ z. is_last (token_in z [])) scan-end) ∙ ap (λ z. token_in z [] ∷ []) scan-end
 
 places-nil : (at : ℕ) → places at [] ≡ at ∷ []
@@ -233,3 +234,11 @@ seen-fails text at g w =
       front_is = tokens-front (drop at text) ∙ ap (λ z. token_in (scan z) z) r ∙ ap (λ z. token_in z (drop (at + g) text)) w.scan_is;
       place_is = place-front at (drop at text) ∙ sym s;
     }
+
+pub seen-longest : (text : List ℕ) (at g : ℕ) (k : TokenKind) (n : ℕ) → Seen text at g (Some (k, n)) → IsTokenAt (drop (at + g) text) k (at + g + n - (at + g))
+seen-longest text at g k n w =
+    let m : n ≡ at + g + n - (at + g) = omega arith in
+    subst (λ (z : ℕ). IsTokenAt (drop (at + g) text) k z) m (scan-some (drop (at + g) text) k n w.scan_is)
+
+pub seen-nothing : (text : List ℕ) (at g : ℕ) → Seen text at g None → NoToken (drop (at + g) text)
+seen-nothing text at g w = scan-nothing (drop (at + g) text) w.scan_is

@@ -1,5 +1,5 @@
 -- Each token but the end takes at least a byte.
-use Rattle.std.proofs.Common.{◌≡◌, ℕ, zero, suc, ◌+◌, ◌<◌, ◌^◌, ◌==◌, ◌||◌, ◌&&◌, refl, ap, ◌∙◌, Bool, true, false, cond, if◌then◌else◌, List, [], ◌∷◌, length, take, Option, Some, None, pos, neg_ℤ, lit<, arith}
+use Rattle.std.proofs.Common.{◌≡◌, ℕ, zero, suc, ◌<◌, ◌==◌, ◌&&◌, refl, Bool, true, false, if◌then◌else◌, List, [], ◌∷◌, length, take, Option, Some, None, pos, neg_ℤ, arith}
 use Rattle.std.specs.List.{list_all}
 use Rattle.hhas_lex.specs.declared.token.TokenKind.{TokenKind}
 use Rattle.hhas_lex.specs.declared.token.TokenKind.TheVariants as kinds

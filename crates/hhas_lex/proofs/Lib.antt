@@ -4,5 +4,8 @@ pub mod Fronts
 pub mod Searching
 pub mod Scanning
 pub mod Quotes
+pub mod ByteTests
+pub mod Exact
 pub mod Grows
 pub mod Following
+pub mod Spelled

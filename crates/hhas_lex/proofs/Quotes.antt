@@ -1,5 +1,5 @@
 -- How strings are read byte by byte.
-use Rattle.std.proofs.Common.{◌≡◌, ℕ, zero, suc, ◌+◌, ◌<◌, ◌≤◌, refl, sym, ap, subst, ◌∙◌, Bool, true, false, List, [], ◌∷◌, ◌++◌, length, take, get_or, fold, append_assoc, append-nil, length-append, arith, inl, inr}
+use Rattle.std.proofs.Common.{◌≡◌, ℕ, zero, suc, ◌+◌, ◌<◌, ◌≤◌, refl, sym, ap, ◌∙◌, false, List, [], ◌∷◌, ◌++◌, length, take, get_or, fold, append_assoc, append-nil, length-append, arith, inl, inr}
 use Rattle.std.specs.Option.{option_to_list}
 use Rattle.std.proofs.lemmas.List.{take_more}
 use Rattle.std.proofs.lemmas.List.Sums.{fold_more}
@@ -43,7 +43,7 @@ broken-on m [] (suc n) (suc j) h e = e
 broken-on m (b ∷ bs) (suc n) (suc j) h e = broken-on (step m b) bs n j (omega arith) e
 
 -- what follows the closing quote is no part of the string
-closed-on : (m : Mode) (bs : List ℕ) (n j : ℕ) → n < j → j ≤ length bs → fold step m (take n bs) ≡ Closed → fold step m (take j bs) ≡ Broken
+pub closed-on : (m : Mode) (bs : List ℕ) (n j : ℕ) → n < j → j ≤ length bs → fold step m (take n bs) ≡ Closed → fold step m (take j bs) ≡ Broken
 closed-on m bs n zero h le e = absurd (omega arith)
 closed-on m [] n (suc j) h le e = absurd (omega arith)
 closed-on m (b ∷ bs) zero (suc j) h le e = ap (λ (z : Mode). fold step (step z b) (take j bs)) e ∙ broken-stays (take j bs)

@@ -1,5 +1,5 @@
 -- The token at the front, for each kind of first byte.
-use Rattle.std.proofs.Common.{◌≡◌, ℕ, zero, suc, ◌+◌, ◌-◌, ◌*◌, ◌<◌, ◌≤◌, ◌^◌, refl, sym, ap, ◌∙◌, subst, Bool, true, false, not, cond, ◌&&◌, ◌||◌, if◌then◌else◌, ◌==◌, nat_lt, nat_le, List, [], ◌∷◌, length, get_or, take, drop, Option, None, Some, pos, neg_ℤ, arith}
+use Rattle.std.proofs.Common.{◌≡◌, ℕ, zero, suc, ◌+◌, ◌-◌, ◌<◌, ◌≤◌, ◌^◌, refl, sym, ap, ◌∙◌, subst, Bool, true, false, ◌&&◌, if◌then◌else◌, ◌==◌, nat_lt, nat_le, List, [], ◌∷◌, length, get_or, take, drop, Option, None, Some, pos, neg_ℤ, arith}
 use Rattle.std.specs.List.{list_all}
 use Rattle.std.proofs.lemmas.List.{length-take-le, take_rest}
 use Rattle.std.proofs.lemmas.Bool.Decides.{nat_tests}
@@ -11,14 +11,14 @@ use Rattle.hhas_lex.specs.Fronts.{LongestFront, NoFront}
 use Rattle.hhas_lex.specs.Shape.{shape, when, is_empty, mark_shape, longest, scan, Scanned, kept, front_of_length, fits, is_int64}
 use Rattle.hhas_lex.proofs.Numbers.{is_int64-neg}
 use Rattle.hhas_lex.proofs.Fronts.{split, run_of-yes, run_of-no, front-on, name-none, name-not, run-front, empty-front}
-use Rattle.hhas_lex.proofs.Searching.{longest-at, scan-front, scan-none, shape-nil}
+use Rattle.hhas_lex.proofs.Searching.{longest-at, scan-front, scan-none}
 
 pub end_scan : (bytes : List ℕ) → length bytes < 1 → scan bytes ≡ Some (kinds.End, 0)
 unfolding scan
 end_scan [] h = refl
 end_scan (b ∷ bs) h = absurd (omega arith)
 
-abbrev answer : Bool → TokenKind → ℕ → Scanned
+abbrev pub answer : Bool → TokenKind → ℕ → Scanned
 answer t kind n = if t then Some (kind, n) else None
 
 -- the same test and length in another form
@@ -54,22 +54,22 @@ shape-local xs = refl
 dollar-scan : scan (36 ∷ []) ≡ None
 dollar-scan = scan-none 36 [] (is_name is_word_start is_word_byte) (λ xs. kinds.Local) shape-local (name-none is_word_start is_word_byte)
 
-local-scan : (b : ℕ) (bs : List ℕ)
+pub local-scan : (b : ℕ) (bs : List ℕ)
     → scan (36 ∷ b ∷ bs) ≡ (if is_word_start b then (if nat_le (1 + run_of is_word_byte bs) 100 then Some (kinds.Local, 2 + run_of is_word_byte bs) else None) else None)
 local-scan b bs =
     let n = run_of is_word_byte bs in
     split (is_word_start b)
     (λ e. scan-front 36 (b ∷ bs) (is_name is_word_start is_word_byte) (λ xs. kinds.Local) (suc n) shape-local (front-on is_word_start is_word_byte b bs n e (run-front is_word_byte bs))
-      ∙ answered _ (nat_le (1 + n) 100) kinds.Local (suc (suc n)) (2 + n) (word-limit bs) (omega arith)
-      ∙ chosen (is_word_start b) (answer (nat_le (1 + n) 100) kinds.Local (2 + n)) None e)
+    ∙ answered _ (nat_le (1 + n) 100) kinds.Local (suc (suc n)) (2 + n) (word-limit bs) (omega arith)
+    ∙ chosen (is_word_start b) (answer (nat_le (1 + n) 100) kinds.Local (2 + n)) None e)
     (λ e. scan-none 36 (b ∷ bs) (is_name is_word_start is_word_byte) (λ xs. kinds.Local) shape-local (name-not is_word_start is_word_byte b bs e)
-      ∙ passed (is_word_start b) (answer (nat_le (1 + n) 100) kinds.Local (2 + n)) None e)
+    ∙ passed (is_word_start b) (answer (nat_le (1 + n) 100) kinds.Local (2 + n)) None e)
 
 shape-directive : (xs : List ℕ) → shape (46 ∷ xs) ≡ when (is_name is_lower is_lower xs) kinds.Directive
 unfolding shape
 shape-directive xs = refl
 
-suc-not-zero : (n : ℕ) → (suc n == 0) ≡ false
+pub suc-not-zero : (n : ℕ) → (suc n == 0) ≡ false
 suc-not-zero n = grind (arith, nat_tests)
 
 pub directive_scan : (bs : List ℕ) → scan (46 ∷ bs) ≡ (if run_of is_lower bs == 0 then None else Some (kinds.Directive, 1 + run_of is_lower bs))
@@ -79,11 +79,11 @@ directive_scan (b ∷ bs) =
     let P : ℕ → Type 0 = λ m. scan (46 ∷ b ∷ bs) ≡ (if m == 0 then None else Some (kinds.Directive, 1 + m)) in
     split (is_lower b)
     (λ e. subst P (sym (run_of-yes is_lower b bs e))
-      (scan-front 46 (b ∷ bs) (is_name is_lower is_lower) (λ xs. kinds.Directive) (suc n) shape-directive (front-on is_lower is_lower b bs n e (run-front is_lower bs))
-      ∙ answered true true kinds.Directive (suc (suc n)) (1 + suc n) refl (omega arith)
-      ∙ passed (suc n == 0) None (Some (kinds.Directive, 1 + suc n)) (suc-not-zero n)))
+    (scan-front 46 (b ∷ bs) (is_name is_lower is_lower) (λ xs. kinds.Directive) (suc n) shape-directive (front-on is_lower is_lower b bs n e (run-front is_lower bs))
+    ∙ answered true true kinds.Directive (suc (suc n)) (1 + suc n) refl (omega arith)
+    ∙ passed (suc n == 0) None (Some (kinds.Directive, 1 + suc n)) (suc-not-zero n)))
     (λ e. subst P (sym (run_of-no is_lower b bs e))
-      (scan-none 46 (b ∷ bs) (is_name is_lower is_lower) (λ xs. kinds.Directive) shape-directive (name-not is_lower is_lower b bs e)))
+    (scan-none 46 (b ∷ bs) (is_name is_lower is_lower) (λ xs. kinds.Directive) shape-directive (name-not is_lower is_lower b bs e)))
 
 shape-zero : (xs : List ℕ) → shape (48 ∷ xs) ≡ when (is_empty xs) (kinds.Integer (pos (number_of (48 ∷ xs))))
 unfolding shape
@@ -98,14 +98,14 @@ unfolding shape
 shape-positive b e1 e2 e3 xs = rw (e1, e2, e3) refl
 
 -- a number by its first digit and the others
-number-first : (b : ℕ) (ds : List ℕ) → number_of (b ∷ ds) ≡ number_from (b - 48) ds
+pub number-first : (b : ℕ) (ds : List ℕ) → number_of (b ∷ ds) ≡ number_from (b - 48) ds
 number-first b ds = ap (λ n. number_from n ds) (omega arith)
 
 pub positive_scan : (b : ℕ) (bs : List ℕ) → is_word_start b ≡ false → is_digit b ≡ true → (b == 48) ≡ false
     → scan (b ∷ bs)
     ≡ (if nat_lt (number_from (b - 48) (take (run_of is_digit bs) bs)) (2 ^ 63)
-      then Some (kinds.Integer (pos (number_from (b - 48) (take (run_of is_digit bs) bs))), 1 + run_of is_digit bs)
-      else None)
+    then Some (kinds.Integer (pos (number_from (b - 48) (take (run_of is_digit bs) bs))), 1 + run_of is_digit bs)
+    else None)
 positive_scan b bs e1 e2 e3 =
     let n = run_of is_digit bs in
     scan-front b bs (list_all is_digit) (λ xs. kinds.Integer (pos (number_of (b ∷ xs)))) n (shape-positive b e1 e2 e3) (run-front is_digit bs)
@@ -119,13 +119,13 @@ shape-negative xs = refl
 minus-scan : scan (45 ∷ []) ≡ None
 minus-scan = scan-none 45 [] (is_name is_leading_digit is_digit) (λ xs. kinds.Integer (neg_ℤ (pos (number_of xs)))) shape-negative (name-none is_leading_digit is_digit)
 
-negative-scan : (b : ℕ) (bs : List ℕ)
+pub negative-scan : (b : ℕ) (bs : List ℕ)
     → scan (45 ∷ b ∷ bs)
     ≡ (if is_leading_digit b
-      then (if nat_le (number_from (b - 48) (take (run_of is_digit bs) bs)) (2 ^ 63)
-        then Some (kinds.Integer (neg_ℤ (pos (number_from (b - 48) (take (run_of is_digit bs) bs)))), 2 + run_of is_digit bs)
-        else None)
-      else None)
+    then (if nat_le (number_from (b - 48) (take (run_of is_digit bs) bs)) (2 ^ 63)
+    then Some (kinds.Integer (neg_ℤ (pos (number_from (b - 48) (take (run_of is_digit bs) bs)))), 2 + run_of is_digit bs)
+    else None)
+    else None)
 negative-scan b bs =
     let n = run_of is_digit bs in
     let kind : List ℕ → TokenKind = λ xs. kinds.Integer (neg_ℤ (pos (number_of xs))) in
@@ -133,17 +133,17 @@ negative-scan b bs =
     let read = answer (nat_le v (2 ^ 63)) (kinds.Integer (neg_ℤ (pos v))) (2 + n) in
     split (is_leading_digit b)
     (λ e. scan-front 45 (b ∷ bs) (is_name is_leading_digit is_digit) kind (suc n) shape-negative (front-on is_leading_digit is_digit b bs n e (run-front is_digit bs))
-      ∙ ap (λ u. answer (is_int64 (neg_ℤ (pos u))) (kinds.Integer (neg_ℤ (pos u))) (suc (suc n))) (number-first b (take n bs))
-      ∙ answered _ (nat_le v (2 ^ 63)) (kinds.Integer (neg_ℤ (pos v))) (suc (suc n)) (2 + n) (is_int64-neg v) (omega arith)
-      ∙ chosen (is_leading_digit b) read None e)
+    ∙ ap (λ u. answer (is_int64 (neg_ℤ (pos u))) (kinds.Integer (neg_ℤ (pos u))) (suc (suc n))) (number-first b (take n bs))
+    ∙ answered _ (nat_le v (2 ^ 63)) (kinds.Integer (neg_ℤ (pos v))) (suc (suc n)) (2 + n) (is_int64-neg v) (omega arith)
+    ∙ chosen (is_leading_digit b) read None e)
     (λ e. scan-none 45 (b ∷ bs) (is_name is_leading_digit is_digit) kind shape-negative (name-not is_leading_digit is_digit b bs e)
-      ∙ passed (is_leading_digit b) read None e)
+    ∙ passed (is_leading_digit b) read None e)
 
 shape-string : (xs : List ℕ) → shape (34 ∷ xs) ≡ when (closes xs) kinds.Str
 unfolding shape
 shape-string xs = refl
 
-string-scan : (bs : List ℕ) (n : ℕ) → LongestFront closes bs n
+pub string-scan : (bs : List ℕ) (n : ℕ) → LongestFront closes bs n
     → scan (34 ∷ bs) ≡ (if nat_le (length (value_of (take n bs))) 1048576 then Some (kinds.Str, 1 + n) else None)
 string-scan bs n w =
     scan-front 34 bs closes (λ xs. kinds.Str) n shape-string w
@@ -152,7 +152,7 @@ string-scan bs n w =
 pub quote_scan : (bs : List ℕ) → NoFront closes bs → scan (34 ∷ bs) ≡ None
 quote_scan bs w = scan-none 34 bs closes (λ xs. kinds.Str) shape-string w
 
-shape-mark : (b : ℕ) → is_word_start b ≡ false → is_digit b ≡ false → is_mark b ≡ true → (xs : List ℕ) → shape (b ∷ xs) ≡ mark_shape b xs
+pub shape-mark : (b : ℕ) → is_word_start b ≡ false → is_digit b ≡ false → is_mark b ≡ true → (xs : List ℕ) → shape (b ∷ xs) ≡ mark_shape b xs
 unfolding shape
 shape-mark b e1 e2 e3 xs = rw (e1, e2, e3) refl
 
@@ -163,13 +163,13 @@ unfolding scan
 scan-longest b bs n kind l s f =
     ap (front_of_length (b ∷ bs)) l ∙ ap (λ (o : Option TokenKind). kept o (b ∷ bs) n) s ∙ ap (λ t. answer t kind n) f
 
-last-mark-scan : (b : ℕ) → is_word_start b ≡ false → is_digit b ≡ false → is_mark b ≡ true → scan (b ∷ []) ≡ Some (kinds.Mark b, 1)
+pub last-mark-scan : (b : ℕ) → is_word_start b ≡ false → is_digit b ≡ false → is_mark b ≡ true → scan (b ∷ []) ≡ Some (kinds.Mark b, 1)
 last-mark-scan b e1 e2 e3 =
     scan-longest b [] 1 (kinds.Mark b)
     (longest-at 1 1 (b ∷ []) (kinds.Mark b) (omega arith) (shape-mark b e1 e2 e3 []) (λ m lt le. absurd (omega arith)))
     (shape-mark b e1 e2 e3 []) refl
 
-one-mark : (b c : ℕ) (bs : List ℕ) → ((xs : List ℕ) → shape (b ∷ xs) ≡ mark_shape b xs) → (b == 60 && c == 61) ≡ false → scan (b ∷ c ∷ bs) ≡ Some (kinds.Mark b, 1)
+pub one-mark : (b c : ℕ) (bs : List ℕ) → ((xs : List ℕ) → shape (b ∷ xs) ≡ mark_shape b xs) → (b == 60 && c == 61) ≡ false → scan (b ∷ c ∷ bs) ≡ Some (kinds.Mark b, 1)
 one-mark b c bs s e =
     scan-longest b (c ∷ bs) 1 (kinds.Mark b)
     (longest-at (suc (suc (length bs))) 1 (b ∷ c ∷ bs) (kinds.Mark b) (omega arith) (s []) longer)
@@ -194,7 +194,7 @@ two-marks b c bs s e =
     longer [] (suc (suc (suc m))) lt le = absurd (omega arith)
     longer (d ∷ ds) (suc (suc (suc m))) lt le = s (c ∷ d ∷ take m ds) ∙ ap (λ t. when (t && false) kinds.LessEqual) e
 
-mark-scan : (b c : ℕ) (bs : List ℕ) → is_word_start b ≡ false → is_digit b ≡ false → is_mark b ≡ true
+pub mark-scan : (b c : ℕ) (bs : List ℕ) → is_word_start b ≡ false → is_digit b ≡ false → is_mark b ≡ true
     → scan (b ∷ c ∷ bs) ≡ (if b == 60 && c == 61 then Some (kinds.LessEqual, 2) else Some (kinds.Mark b, 1))
 mark-scan b c bs e1 e2 e3 =
     let t = b == 60 && c == 61 in
@@ -207,7 +207,7 @@ shape-other : (b : ℕ) → is_word_start b ≡ false → is_digit b ≡ false �
 unfolding shape
 shape-other b e1 e2 e3 e4 e5 e6 e7 xs = rw (e1, e2, e3, e4, e5, e6, e7) refl
 
-other-scan : (b : ℕ) (bs : List ℕ) → is_word_start b ≡ false → is_digit b ≡ false → is_mark b ≡ false
+pub other-scan : (b : ℕ) (bs : List ℕ) → is_word_start b ≡ false → is_digit b ≡ false → is_mark b ≡ false
     → (b == 46) ≡ false → (b == 36) ≡ false → (b == 45) ≡ false → (b == 34) ≡ false → scan (b ∷ bs) ≡ None
 other-scan b bs e1 e2 e3 e4 e5 e6 e7 =
     scan-none b bs (λ xs. false) (λ xs. kinds.End) (shape-other b e1 e2 e3 e4 e5 e6 e7) (record { none = λ m le. refl })
@@ -228,8 +228,8 @@ no_local_scan (b ∷ bs) h = absurd (omega arith)
 pub local_scan : (bytes : List ℕ) → 1 ≤ length bytes
     → scan (36 ∷ bytes)
     ≡ (if is_word_start (get_or bytes 0 0)
-      then (if nat_le (1 + run_of is_word_byte (others bytes)) 100 then Some (kinds.Local, 1 + (1 + run_of is_word_byte (others bytes))) else None)
-      else None)
+    then (if nat_le (1 + run_of is_word_byte (others bytes)) 100 then Some (kinds.Local, 1 + (1 + run_of is_word_byte (others bytes))) else None)
+    else None)
 local_scan [] h = absurd (omega arith)
 local_scan (b ∷ bs) h =
     local-scan b bs
@@ -249,10 +249,10 @@ negative-answer b r =
 pub negative_scan : (bytes : List ℕ) → 1 ≤ length bytes
     → scan (45 ∷ bytes)
     ≡ (if is_leading_digit (get_or bytes 0 0)
-      then (if nat_le (number_from (get_or bytes 0 0 - 48) (take (run_of is_digit (others bytes)) (others bytes))) (2 ^ 63)
-        then Some (kinds.Integer (neg_ℤ (pos (number_from (get_or bytes 0 0 - 48) (take (run_of is_digit (others bytes)) (others bytes))))), 2 + run_of is_digit (others bytes))
-        else None)
-      else None)
+    then (if nat_le (number_from (get_or bytes 0 0 - 48) (take (run_of is_digit (others bytes)) (others bytes))) (2 ^ 63)
+    then Some (kinds.Integer (neg_ℤ (pos (number_from (get_or bytes 0 0 - 48) (take (run_of is_digit (others bytes)) (others bytes))))), 2 + run_of is_digit (others bytes))
+    else None)
+    else None)
 negative_scan [] h = absurd (omega arith)
 negative_scan (b ∷ bs) h = negative-scan b bs ∙ ap (negative-answer b) (others-cons b bs)
 

@@ -1,20 +1,20 @@
 -- The longest front is found.
-use Rattle.std.proofs.Common.{◌≡◌, ℕ, zero, suc, ◌+◌, ◌<◌, ◌≤◌, refl, sym, ap, subst, ◌∙◌, Bool, true, false, cond, if◌then◌else◌, List, [], ◌∷◌, length, take, Option, None, Some, arith, inl, inr, ◌⊎◌}
+use Rattle.std.proofs.Common.{◌≡◌, ℕ, zero, suc, ◌<◌, ◌≤◌, refl, sym, ap, subst, ◌∙◌, Bool, cond, if◌then◌else◌, List, [], ◌∷◌, length, take, Option, None, Some, arith, inl, inr}
 use Rattle.std.specs.Option.{is_some}
 use Rattle.std.proofs.lemmas.Bool.{cases_eq}
 use Rattle.hhas_lex.specs.declared.token.TokenKind.{TokenKind}
 use Rattle.hhas_lex.specs.Fronts.{LongestFront, NoFront}
-use Rattle.hhas_lex.specs.Shape.{shape, when, longest, scan, Scanned, kept, front_of_length, fits}
+use Rattle.hhas_lex.specs.Shape.{shape, when, longest, scan, kept, front_of_length, fits}
 
-longest-here : (t : ℕ) (bytes : List ℕ) (kind : TokenKind) → shape (take (suc t) bytes) ≡ Some kind → longest (suc t) bytes ≡ suc t
+pub longest-here : (t : ℕ) (bytes : List ℕ) (kind : TokenKind) → shape (take (suc t) bytes) ≡ Some kind → longest (suc t) bytes ≡ suc t
 unfolding longest
 longest-here t bytes kind e = ap (λ (o : Option TokenKind). cond (is_some o) (suc t) (longest t bytes)) e
 
-longest-on : (t : ℕ) (bytes : List ℕ) → shape (take (suc t) bytes) ≡ None → longest (suc t) bytes ≡ longest t bytes
+pub longest-on : (t : ℕ) (bytes : List ℕ) → shape (take (suc t) bytes) ≡ None → longest (suc t) bytes ≡ longest t bytes
 unfolding longest
 longest-on t bytes e = ap (λ (o : Option TokenKind). cond (is_some o) (suc t) (longest t bytes)) e
 
-longest-zero : (bytes : List ℕ) → longest 0 bytes ≡ 0
+pub longest-zero : (bytes : List ℕ) → longest 0 bytes ≡ 0
 unfolding longest
 longest-zero bytes = refl
 

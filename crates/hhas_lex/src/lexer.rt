@@ -1,6 +1,7 @@
 //! The lexer.
 
-ghost use Rattle.std.specs.Prelude.{◌≡◌, ◌+◌, ◌≤◌, ◌<◌, ◌^◌, length, drop, IfOk, IfErr};
+ghost use Rattle.std.specs.Prelude.{◌≡◌, ◌+◌, ◌-◌, ◌≤◌, ◌<◌, ◌^◌, length, drop, IfOk, IfErr};
+ghost use Rattle.hhas_lex.specs.Shape.{IsTokenAt, NoToken};
 ghost use Rattle.hhas_lex.specs.Tokens.{Bad, front, front_place, behind, left, left_places, meaning, gap, gap_within};
 
 use crate::bytes::is_white;
@@ -64,6 +65,12 @@ impl<'a> Lexer<'a> {
 
         // The token stands behind white space and comments, and the lexer behind the token.
         ensures span { IfOk result (λ t. (t.start ≡ self.old.at + gap (drop self.old.at self.old.text)) × (t.start ≤ t.end) × (t.end ≤ length self.old.text) × (self.new.at ≡ t.end)) }
+
+        // It is the longest that begins there, and there is none exactly where the lexer finds a fault.
+        ensures longest { IfOk result (λ t. IsTokenAt (drop t.start self.old.text) t.kind (t.end - t.start)) }
+        ensures none { IfErr result (λ f. NoToken (drop f.at self.old.text)) }
+
+        // The places where the tokens begin go along.
         ensures places { IfOk result (λ t. (front_place (left_places self.old) ≡ t.start) × (left_places self.new ≡ behind (left_places self.old))) }
         ensures fault_at { IfErr result (λ f. (f.at ≡ self.old.at + gap (drop self.old.at self.old.text)) × (front_place (left_places self.old) ≡ f.at)) }
     {

@@ -2,12 +2,17 @@
 #![tactic(auto)]
 
 mod bytes;
+mod laws;
 mod lexer;
 mod scan;
 mod strings;
 mod token;
 mod value;
 
+pub use laws::spelled_tokens_are_read;
 pub use lexer::Lexer;
 pub use token::{LexFault, Token, TokenKind};
 pub use value::string_value;
+
+#[cfg(test)]
+mod tests;

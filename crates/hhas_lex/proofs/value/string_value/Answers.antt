@@ -1,4 +1,4 @@
-use Rattle.std.proofs.Common.{◌≡◌, ◌∙◌}
+use Rattle.std.proofs.Common.{◌∙◌}
 use Rattle.hhas_lex.proofs.Quotes.{value_of-pushed, mode-more}
 use Rattle.hhas_lex.proofs.value.string_value.Goals as goal
 

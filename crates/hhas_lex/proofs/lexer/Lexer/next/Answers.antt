@@ -1,5 +1,5 @@
 use Rattle.std.proofs.Common.{◌+◌, refl, ap, None}
-use Rattle.hhas_lex.proofs.Following.{seen, seen-taken, seen-fails}
+use Rattle.hhas_lex.proofs.Following.{seen, seen-taken, seen-fails, seen-longest, seen-nothing}
 use Rattle.hhas_lex.proofs.lexer.Lexer.next.Goals as goal
 
 pub returns-in-Some-clause-token : goal.returns-in-Some-clause-token
@@ -25,3 +25,15 @@ returns-in-None-clause-fault_at c =
     let s = seen c.self.inside.text.now c.self.inside.at c.gap_length.result c.scan.result None c.gap_length.ensures.value c.scan.ensures.value c.in-None.is in
     let t = seen-fails _ _ _ s in
     rw (← c.self.view_is) (ap (λ z. c.self.inside.at + z) s.gap_is, t.place_is)
+
+pub returns-in-Some-clause-longest : goal.returns-in-Some-clause-longest
+returns-in-Some-clause-longest c =
+    rw (← c.self.view_is)
+    (seen-longest c.self.inside.text.now c.self.inside.at c.gap_length.result c.in-Some.kind c.in-Some.count
+    (seen _ _ _ c.scan.result _ c.gap_length.ensures.value c.scan.ensures.value c.in-Some.is))
+
+pub returns-in-None-clause-none : goal.returns-in-None-clause-none
+returns-in-None-clause-none c =
+    rw (← c.self.view_is)
+    (seen-nothing c.self.inside.text.now c.self.inside.at c.gap_length.result
+    (seen _ _ _ c.scan.result _ c.gap_length.ensures.value c.scan.ensures.value c.in-None.is))

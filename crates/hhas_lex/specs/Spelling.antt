@@ -1,0 +1,68 @@
+-- The canonical spelling of a token, and what may follow it.
+use Rattle.std.specs.Prelude.{◌≡◌, ℕ, ◌+◌, ◌/◌, ◌%◌, Bool, true, false, ◌||◌, ◌&&◌, ◌==◌, List, [], ◌∷◌, ◌++◌, length, nat_le, nat_lt, if◌then◌else◌}
+use Rattle.std.specs.List.{list_all, flat_map}
+use Rattle.std.specs.Fmt.{signed_decimal}
+use Rattle.hhas_lex.specs.Bytes.{is_lower, is_word_start, is_word_byte, is_digit, is_mark, is_plain, is_name}
+use Rattle.hhas_lex.specs.Shape.{is_int64}
+use Rattle.hhas_lex.specs.Tokens.{Token, Directive, Word, Local, Integer, Str, Mark, LessEqual, End, Bad}
+
+abbrev pub is_word : List ℕ → Bool
+is_word bytes = is_name is_word_start is_word_byte bytes && nat_le (length bytes) 100
+
+abbrev pub is_byte : ℕ → Bool
+is_byte b = nat_lt b 256
+
+abbrev pub is_string : List ℕ → Bool
+is_string bytes = list_all is_byte bytes && nat_le (length bytes) 1048576
+
+-- a token that stands in a text, before its end
+abbrev pub is_proper : Token → Bool
+is_proper (Directive letters) = is_name is_lower is_lower letters
+is_proper (Word bytes) = is_word bytes
+is_proper (Local bytes) = is_word bytes
+is_proper (Integer i) = is_int64 i
+is_proper (Str bytes) = is_string bytes
+is_proper (Mark b) = is_mark b
+is_proper LessEqual = true
+is_proper End = false
+is_proper Bad = false
+
+-- a hexadecimal digit of lower case
+abbrev pub hex_digit : ℕ → ℕ
+hex_digit d = if nat_lt d 10 then 48 + d else 87 + d
+
+-- how a byte of a value stands in a string
+abbrev pub escaped : ℕ → List ℕ
+escaped b =
+    if b == 10 then 92 ∷ 110 ∷ []
+    else if b == 34 || b == 92 then 92 ∷ b ∷ []
+    else if is_plain b then b ∷ []
+    else 92 ∷ 120 ∷ hex_digit (b / 16) ∷ hex_digit (b % 16) ∷ []
+
+abbrev pub spelling : Token → List ℕ
+spelling (Directive letters) = 46 ∷ letters
+spelling (Word bytes) = bytes
+spelling (Local bytes) = 36 ∷ bytes
+spelling (Integer i) = signed_decimal i
+spelling (Str bytes) = 34 ∷ (flat_map escaped bytes ++ 34 ∷ [])
+spelling (Mark b) = b ∷ []
+spelling LessEqual = 60 ∷ 61 ∷ []
+spelling End = []
+spelling Bad = []
+
+-- the first byte fails the test
+abbrev pub Stops : (ℕ → Bool) → List ℕ → Type 0
+Stops test [] = Unit {0}
+Stops test (b ∷ bs) = test b ≡ false
+
+-- the bytes don't go on with the token
+abbrev pub Apart : Token → List ℕ → Type 0
+Apart (Directive letters) rest = Stops is_lower rest
+Apart (Word bytes) rest = Stops is_word_byte rest
+Apart (Local bytes) rest = Stops is_word_byte rest
+Apart (Integer i) rest = Stops is_digit rest
+Apart (Str bytes) rest = Unit {0}
+Apart (Mark b) rest = Stops (λ c. b == 60 && c == 61) rest
+Apart LessEqual rest = Unit {0}
+Apart End rest = Unit {0}
+Apart Bad rest = Unit {0}
