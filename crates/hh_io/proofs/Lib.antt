@@ -1,2 +1,3 @@
+pub mod Certain
 pub mod Fronts
 pub mod Taking

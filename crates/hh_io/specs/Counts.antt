@@ -23,3 +23,8 @@ pub record HasCause {T E : Type 0} (before now : ℕ) (result : Result T E) : Ty
 pub record RisesByOne (before now : ℕ) : Type 0 where
   pub later : before ≤ now
   pub once : now ≤ before + 1
+
+-- a call that was certain not to fail did not, and at most one call fewer is certain now
+pub record UsesCertainty {T E : Type 0} (before now : ℕ) (result : Result T E) : Type 0 where
+  pub fewer : before ≤ now + 1
+  pub held : OnErr result (before ≡ 0)

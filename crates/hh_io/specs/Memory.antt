@@ -1,11 +1,17 @@
 -- What sources and sinks over memory are, and what a call leaves of them.
-use Rattle.std.specs.Prelude.{◌==◌, ℕ, ◌-◌, Bool, List, ◌++◌, length, drop, min}
+use Rattle.std.specs.Prelude.{◌==◌, ℕ, ◌-◌, ◌^◌, nat_le, Bool, List, [], ◌∷◌, ◌++◌, length, drop, min, if◌then◌else◌}
 use Rattle.std.specs.List.{list_any}
 use Rattle.hh_io.specs.Counts.{count_after}
 
 -- whether the call of this number fails
 abbrev pub is_listed : List ℕ → ℕ → Bool
 is_listed failing call = list_any (λ number. number == call) failing
+
+-- how many calls from this number on are certain not to fail
+abbrev pub certain_calls : List ℕ → ℕ → ℕ
+certain_calls [] call = 2 ^ 64
+certain_calls (number ∷ rest) call =
+    if nat_le call number then min (number - call) (certain_calls rest call) else certain_calls rest call
 
 -- a source over memory: the bytes left, the numbers of the calls that fail, and the counts
 pub record Supply : Type 0 where

@@ -1,9 +1,9 @@
 ghost use Rattle.std.specs.Prelude.{◌≡◌, ◌≤◌, ◌<◌, [], true, false, Some, Ok, IsErr, IfOk, length, take};
 ghost use Rattle.std.specs.Io.{ReadsAtMost};
 ghost use Rattle.std.specs.Io.KnownBytes.{ReadConsumes};
-ghost use Rattle.hh_io.specs.Counts.{last_count, HasCause, RisesByOne};
-ghost use Rattle.hh_io.specs.Sinks.{WriteTakes};
-ghost use Rattle.hh_io.specs.Memory.{is_listed, given_count, supply_after, supply_failed, fitting_count, store_after, store_failed};
+ghost use Rattle.hh_io.specs.Counts.{last_count, HasCause, RisesByOne, UsesCertainty};
+ghost use Rattle.hh_io.specs.Sinks.{WriteTakes, WriteTellsOn};
+ghost use Rattle.hh_io.specs.Memory.{is_listed, certain_calls, given_count, supply_after, supply_failed, fitting_count, store_after, store_failed};
 
 use crate::front::copy_from;
 use crate::{Failed, Sink, Source};
@@ -34,7 +34,12 @@ impl Model for MemSource {
 
     ghost Value = { Supply };
 
-    ghost view = { λ s. record { left = drop s.at s.bytes; failing = s.failing; calls = s.calls; faults = s.faults } };
+    ghost view = { λ s. record {
+      left = drop s.at s.bytes;
+      failing = s.failing;
+      calls = s.calls;
+      faults = s.faults;
+    } };
 
     ghost invariant = { λ s. s.at ≤ length s.bytes };
 }
@@ -63,12 +68,16 @@ impl Source for MemSource {
 
     ghost reads = { λ s. s.calls };
 
+    ghost certain = { λ s. certain_calls s.failing s.calls };
+
     fn read(&mut self, buf: &mut [u8]) -> Result<usize, Failed>
         ensures bound { ReadsAtMost result buf.new }
         ensures bytes { ReadConsumes (Some self.old.left) (Some self.new.left) result buf.new }
         ensures cause { HasCause self.old.faults self.new.faults result }
         ensures limit { 0 < length buf.old → self.new.faults ≤ last_count }
         ensures counted { RisesByOne self.old.calls self.new.calls }
+        ensures sound { UsesCertainty (certain_calls self.old.failing self.old.calls)
+            (certain_calls self.new.failing self.new.calls) result }
 
         // A call with no buffer isn't counted.
         ensures empty { length buf.old ≡ 0 → (result ≡ Ok 0) × (self.new ≡ self.old) }
@@ -115,7 +124,13 @@ impl Model for MemSink {
 
     ghost Value = { Store };
 
-    ghost view = { λ k. record { taken = k.bytes.items; room = k.room; failing = k.failing; calls = k.calls; faults = k.faults } };
+    ghost view = { λ k. record {
+      taken = k.bytes.items;
+      room = k.room;
+      failing = k.failing;
+      calls = k.calls;
+      faults = k.faults;
+    } };
 
     ghost invariant = { λ k. (length k.bytes.items ≤ k.room) × (k.room ≤ vec_capacity k.bytes) };
 }
@@ -123,7 +138,8 @@ impl Model for MemSink {
 impl MemSink {
     /// A sink that has taken nothing yet. It takes the memory for all its room.
     pub fn new(alloc: Global, room: usize, failing: Seq<u64>) -> Result<MemSink, NoMemory>
-        ensures { IfOk result (λ k. k ≡ record { taken = []; room = room; failing = failing; calls = 0; faults = 0 }) }
+        ensures { IfOk result (λ k. k ≡
+            record { taken = []; room = room; failing = failing; calls = 0; faults = 0 }) }
     {
         Ok(MemSink {
             bytes: Vec::with_capacity(alloc, room)?,
@@ -149,10 +165,14 @@ impl Sink for MemSink {
 
     ghost faults = { λ k. k.faults };
 
+    ghost room = { λ k. k.room };
+
     fn write(&mut self, bytes: &[u8]) -> Result<usize, Failed>
         ensures bytes { WriteTakes (Some self.old.taken) (Some self.new.taken) result bytes.now }
         ensures cause { HasCause self.old.faults self.new.faults result }
         ensures limit { 0 < length bytes.now → self.new.faults ≤ last_count }
+        ensures told { WriteTellsOn (Some self.old.taken) (Some self.new.taken) self.old.room result }
+        ensures same_room { self.new.room ≡ self.old.room }
 
         // A call with no bytes isn't counted.
         ensures empty { length bytes.now ≡ 0 → (result ≡ Ok 0) × (self.new ≡ self.old) }

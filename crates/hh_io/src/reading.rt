@@ -1,4 +1,4 @@
-ghost use Rattle.std.specs.Prelude.{◌≡◌, ◌+◌, ◌≤◌, length, IfOk, OnOk, IsErrOf};
+ghost use Rattle.std.specs.Prelude.{◌≡◌, ◌+◌, ◌≤◌, length, IfOk, OnOk, IfSome, IsErrOf};
 ghost use Rattle.std.specs.Io.KnownBytes.{Consumes, IsAtEnd};
 ghost use Rattle.hh_io.specs.Sources.{IsLonger, IsWithin, LosesFront, ReadsPerByte, FaultsFollow};
 
@@ -34,9 +34,13 @@ pub fn read_all<S: Source>(alloc: Global, source: &mut S, limit: u32) -> Result<
     ensures long { IsErrOf result ReadError.TooLong → IsLonger (S.left source.old) limit }
     ensures lost { LosesFront (S.left source.old) (S.left source.new) }
     ensures faults { FaultsFollow (S.faults source.old) (S.faults source.new) result }
+    ensures sound { IsErrOf result ReadError.ReadFailed → S.certain source.old ≤ limit }
+    ensures sound_told { IsErrOf result ReadError.ReadFailed →
+        IfSome (S.left source.old) (λ bytes. S.certain source.old ≤ length bytes) }
     ensures later { S.reads source.old ≤ S.reads source.new }
     ensures reads { S.reads source.new ≤ S.reads source.old + limit + 2 }
-    ensures reads_told { ReadsPerByte (S.left source.old) (S.left source.new) (S.reads source.old) (S.reads source.new) }
+    ensures reads_told { ReadsPerByte (S.left source.old) (S.left source.new)
+        (S.reads source.old) (S.reads source.new) }
 {
     let mut text = Text::from_bytes(alloc, &[])?;
     let mut buf = [0u8; 4096];

@@ -1,8 +1,8 @@
-ghost use Rattle.std.specs.Prelude.{◌≡◌, ◌≤◌, ◌<◌, ◌↔◌, [], Some, Ok, IfOk, IfSome, IsNone, length, min, take, drop};
+ghost use Rattle.std.specs.Prelude.{◌≡◌, ◌≤◌, ◌<◌, ◌^◌, ◌↔◌, [], Some, Ok, IfOk, IfSome, IsNone, length, min, take, drop};
 ghost use Rattle.std.specs.Io.{ReadsAtMost};
 ghost use Rattle.std.specs.Io.KnownBytes.{ReadConsumes};
-ghost use Rattle.hh_io.specs.Counts.{last_count, HasCause, RisesByOne};
-ghost use Rattle.hh_io.specs.Sinks.{WriteTakes};
+ghost use Rattle.hh_io.specs.Counts.{last_count, HasCause, RisesByOne, UsesCertainty};
+ghost use Rattle.hh_io.specs.Sinks.{WriteTakes, WriteTellsOn};
 ghost use Rattle.hh_io.specs.Steady.{told_bytes, steady_after};
 
 use crate::front::copy_from;
@@ -44,12 +44,13 @@ impl Source for SteadySource {
 
     ghost reads = { λ _. 0 };
 
+    ghost certain = { λ _. 2 ^ 64 };
+
     fn read(&mut self, buf: &mut [u8]) -> Result<usize, Failed>
         ensures bound { ReadsAtMost result buf.new }
         ensures bytes { ReadConsumes (Some self.old) (Some self.new) result buf.new }
         ensures cause { HasCause 0 0 result }
-        ensures limit { 0 < length buf.old → 0 ≤ last_count }
-        ensures counted { RisesByOne 0 0 }
+        ensures sound { UsesCertainty (2 ^ 64) (2 ^ 64) result }
         ensures empty { length buf.old ≡ 0 → (result ≡ Ok 0) × (self.new ≡ self.old) }
 
         // Each call fills the buffer as far as the bytes go.
@@ -81,7 +82,8 @@ impl Model for SteadySink {
 
     ghost view = { λ k. record { kept = k.kept.items; total = k.total; room = k.room } };
 
-    ghost invariant = { λ k. (k.total ≤ k.room → length k.kept.items ≡ k.total) × (k.room ≤ vec_capacity k.kept) × (k.room < last_count) };
+    ghost invariant = { λ k. (k.total ≤ k.room → length k.kept.items ≡ k.total)
+        × (k.room ≤ vec_capacity k.kept) × (k.room < last_count) };
 }
 
 impl SteadySink {
@@ -118,10 +120,13 @@ impl Sink for SteadySink {
 
     ghost faults = { λ _. 0 };
 
+    ghost room = { λ k. k.room };
+
     fn write(&mut self, bytes: &[u8]) -> Result<usize, Failed>
         ensures bytes { WriteTakes (told_bytes self.old) (told_bytes self.new) result bytes.now }
         ensures cause { HasCause 0 0 result }
-        ensures limit { 0 < length bytes.now → 0 ≤ last_count }
+        ensures told { WriteTellsOn (told_bytes self.old) (told_bytes self.new) self.old.room result }
+        ensures same_room { self.new.room ≡ self.old.room }
         ensures empty { length bytes.now ≡ 0 → (result ≡ Ok 0) × (self.new ≡ self.old) }
 
         // Each call takes its whole piece.

@@ -7,6 +7,7 @@ invariant-loop-count g l = record {
   short : length l.text ≤ l.limit;
   taken : Consumes (g.S.Source.left l.fn.source) (g.S.Source.left l.source) l.text;
   faults : g.S.Source.faults l.source ≡ g.S.Source.faults l.fn.source;
+  sound : g.S.Source.certain l.fn.source ≤ g.S.Source.certain l.source + length l.text;
   later : g.S.Source.reads l.fn.source ≤ g.S.Source.reads l.source;
   reads : g.S.Source.reads l.source ≤ g.S.Source.reads l.fn.source + length l.text;
 }
