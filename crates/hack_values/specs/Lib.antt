@@ -5,3 +5,6 @@ pub mod View
 pub mod Falls
 pub mod Known
 pub mod Limits
+pub mod Same
+pub mod Casts
+pub mod Operations
