@@ -1,2 +1,4 @@
 pub mod KeyLaws
 pub mod Rows
+pub mod Digits
+pub mod SameLaws

@@ -1,5 +1,5 @@
 -- The text of a value, the number that a text spells, truth and order.
-use Rattle.std.specs.Prelude.{ℕ, ◌+◌, ◌-◌, ◌*◌, ◌^◌, Bool, true, false, not, cond, ◌&&◌, ◌==◌, nat_lt, nat_le, List, [], ◌∷◌, Option, Some, None, ℤ, pos, neg_ℤ}
+use Rattle.std.specs.Prelude.{ℕ, ◌+◌, ◌-◌, ◌*◌, ◌^◌, min, Bool, true, false, not, cond, ◌&&◌, ◌==◌, nat_lt, nat_le, List, [], ◌∷◌, Option, Some, None, ℤ, pos, neg_ℤ}
 use Rattle.std.specs.declared.cmp.Ordering.{Ordering}
 use Rattle.std.specs.Ordering.{nat_cmp, int_cmp, int_eq}
 use Rattle.std.specs.List.{list_all}
@@ -21,14 +21,22 @@ abbrev pub is_digit : ℕ → Bool
 is_digit c = nat_le 48 c && nat_le c 57
 
 -- n, followed by further digits
-abbrev pub digits_after : ℕ → List ℕ → ℕ
-digits_after n [] = n
-digits_after n (c ∷ cs) = digits_after (10 * n + (c - 48)) cs
+abbrev pub number_after : ℕ → List ℕ → Option ℕ
+number_after n [] = Some n
+number_after n (c ∷ cs) = cond (is_digit c) (number_after (10 * n + (c - 48)) cs) None
 
 -- a digit 1 to 9, and further digits
 abbrev pub natural_of : List ℕ → Option ℕ
 natural_of [] = None
-natural_of (c ∷ cs) = cond (nat_lt 48 c && is_digit c && list_all is_digit cs) (Some (digits_after (c - 48) cs)) None
+natural_of (c ∷ cs) = cond (c == 48) None (number_after 0 (c ∷ cs))
+
+-- a number as a u64, which stays at its greatest value
+abbrev pub capped_u64 : ℕ → ℕ
+capped_u64 n = min n (2 ^ 64 - 1)
+
+abbrev pub within_u64 : Option ℕ → Option ℕ
+within_u64 None = None
+within_u64 (Some n) = Some (capped_u64 n)
 
 abbrev pub positive : Option ℕ → Option ℤ
 positive None = None

@@ -1,5 +1,5 @@
 -- The operators, one row each. `a` is the left operand, below `b` on the stack.
-use Rattle.std.specs.Prelude.{◌≡◌, ◌≢◌, ℕ, ◌+◌, ◌++◌, Bool, true, false, not, cond, nat_lt, List, length, Option, Some, None, Result, Ok, Err, ℤ, pos, negsuc, ◌+ℤ◌, ◌-ℤ◌, ◌*ℤ◌, unsigned_abs, int_rem}
+use Rattle.std.specs.Prelude.{◌≡◌, ◌≢◌, ℕ, ◌+◌, ◌++◌, Bool, true, false, not, cond, nat_lt, List, length, Option, Some, None, Result, Ok, Err, MatchResult, ℤ, pos, negsuc, ◌+ℤ◌, ◌-ℤ◌, ◌*ℤ◌, unsigned_abs, int_rem}
 use Rattle.std.specs.Int.{w64, int_wrap, int_rem_euclid, int_bit_and, int_bit_or, int_bit_xor, int_bit_not, int_shl, int_shr}
 use Rattle.std.specs.declared.cmp.Ordering.{Ordering}
 use Rattle.std.specs.declared.cmp.Ordering.TheVariants.{Less, Equal, Greater}
@@ -77,6 +77,15 @@ takes_ints Shl = true
 takes_ints Shr = true
 takes_ints _ = false
 
+-- the operators that compare
+abbrev pub compares : BinOp → Bool
+compares Lt = true
+compares Lte = true
+compares Gt = true
+compares Gte = true
+compares Cmp = true
+compares _ = false
+
 abbrev pub complement : Cell → Result Cell OpFault
 complement (Int a) = Ok (Int (int_bit_not w64 a))
 complement _ = Err BadOperand
@@ -95,4 +104,4 @@ op1 CastString a = or_bad_operand Str (text_of a)
 
 -- a call's answer is the table's, want of memory aside
 abbrev pub IsAnswer : Result Cell OpFault → Result Cell OpFault → Type 0
-IsAnswer result row = result ≢ Err NoMemory → result ≡ row
+IsAnswer result row = MatchResult result (λ c. row ≡ Ok c) (λ fault. fault ≢ NoMemory → row ≡ Err fault)

@@ -36,6 +36,6 @@ pub(crate) fn on_ints(op: BinOp, a: i64, b: i64) -> Result<Cell, OpFault>
         BinOp::BitXor => Ok(Cell::Int(a ^ b)),
         BinOp::Shl => Ok(Cell::Int(a.wrapping_shl(distance(b)))),
         BinOp::Shr => Ok(Cell::Int(a.wrapping_shr(distance(b)))),
-        _ => Err(OpFault::BadOperand),
+        _ => unreachable!(),
     }
 }

@@ -1,3 +1,5 @@
+ghost use Rattle.std.specs.Prelude.{◌≡◌};
+
 use crate::NoMemory;
 
 /// Why a container refused a value.
@@ -11,6 +13,10 @@ pub enum ValueFault {
 }
 
 impl From<NoMemory> for ValueFault {
+    ghost use Rattle.hack_values.specs.declared.value_fault.ValueFault.{ValueFault};
+
+    ghost from_gives = { λ _ fault. fault ≡ ValueFault.NoMemory };
+
     fn from(_refusal: NoMemory) -> ValueFault {
         ValueFault::NoMemory
     }
