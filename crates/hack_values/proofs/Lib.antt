@@ -2,3 +2,4 @@ pub mod KeyLaws
 pub mod Rows
 pub mod Digits
 pub mod SameLaws
+pub mod Listing

@@ -8,3 +8,4 @@ pub mod Limits
 pub mod Same
 pub mod Casts
 pub mod Operations
+pub mod Show
