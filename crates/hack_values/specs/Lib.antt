@@ -9,3 +9,4 @@ pub mod Same
 pub mod Casts
 pub mod Operations
 pub mod Show
+pub mod Natives
