@@ -17,8 +17,8 @@ either {P = P} m n f g = elim (nat_le m n) as (λ b. nat_le m n ≡ b → P) [ t
 pub number_after-capped : (n : ℕ) (ds : List ℕ) → within_u64 (number_after (capped_u64 n) ds) ≡ within_u64 (number_after n ds)
 number_after-capped n ds =
     either n (2 ^ 64 - 1)
-      (λ h. let same : capped_u64 n ≡ n = omega arith in ap (λ x. within_u64 (number_after x ds)) same)
-      (λ h. number_after-great (capped_u64 n) n ds (omega arith) h)
+    (λ h. let same : capped_u64 n ≡ n = omega arith in ap (λ x. within_u64 (number_after x ds)) same)
+    (λ h. number_after-great (capped_u64 n) n ds (omega arith) h)
 
 pub ruleset digits = (number_after-capped)
 

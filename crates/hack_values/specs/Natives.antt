@@ -44,8 +44,8 @@ count_value _ = None
 abbrev pub native_value : List ℕ → List Cell → Option Cell
 native_value name args =
     cond (bytes_eq name (codes "strlen")) (strlen_value args)
-      (cond (bytes_eq name (codes "str_repeat")) (str_repeat_value args)
-        (cond (bytes_eq name (codes "abs")) (abs_value args)
-          (cond (bytes_eq name (codes "min")) (min_value args)
-            (cond (bytes_eq name (codes "max")) (max_value args)
-              (cond (bytes_eq name (codes "count")) (count_value args) None)))))
+    (cond (bytes_eq name (codes "str_repeat")) (str_repeat_value args)
+    (cond (bytes_eq name (codes "abs")) (abs_value args)
+    (cond (bytes_eq name (codes "min")) (min_value args)
+    (cond (bytes_eq name (codes "max")) (max_value args)
+    (cond (bytes_eq name (codes "count")) (count_value args) None)))))

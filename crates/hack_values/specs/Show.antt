@@ -21,9 +21,9 @@ is_printable b = nat_le 32 b && nat_le b 126
 abbrev pub literal_byte : ℕ → List ℕ
 literal_byte b =
     cond (b == 10) (92 ∷ 110 ∷ [])
-      (cond (b == 34) (92 ∷ 34 ∷ [])
-        (cond (b == 92) (92 ∷ 92 ∷ [])
-          (cond (is_printable b) (b ∷ []) (92 ∷ 120 ∷ hex_digit (b / 16) ∷ hex_digit (b % 16) ∷ []))))
+    (cond (b == 34) (92 ∷ 34 ∷ [])
+    (cond (b == 92) (92 ∷ 92 ∷ [])
+    (cond (is_printable b) (b ∷ []) (92 ∷ 120 ∷ hex_digit (b / 16) ∷ hex_digit (b % 16) ∷ []))))
 
 -- a string literal
 abbrev pub literal : List ℕ → List ℕ

@@ -101,7 +101,9 @@ fn parse_digits(digits: &[u8]) -> Option<u64>
         if !is_decimal(*digit) {
             return None;
         }
-        value = value.saturating_mul(10).saturating_add((*digit - b'0') as u64);
+        value = value
+            .saturating_mul(10)
+            .saturating_add((*digit - b'0') as u64);
     }
     Some(value)
 }

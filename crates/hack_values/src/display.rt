@@ -68,7 +68,11 @@ fn digit_of(number: u8) -> u8
     requires { number < 16 }
     ensures { result ≡ hex_digit number }
 {
-    if number < 10 { b'0' + number } else { b'a' - 10 + number }
+    if number < 10 {
+        b'0' + number
+    } else {
+        b'a' - 10 + number
+    }
 }
 
 fn show_key_into(key: &Key, out: &mut Text) -> Result<(), NoMemory>
