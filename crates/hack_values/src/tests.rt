@@ -367,14 +367,17 @@ fn limits_are_exact(rt: HostRuntime) -> Result<(), Fail> {
     Ok(())
 }
 
+fn object(alloc: Global, class: u32) -> Result<Object, NoMemory> {
+    let mut props = Seq::new(alloc);
+    props.push(Cell::Null)?;
+    Ok(Object { class, props })
+}
+
 #[test]
 fn the_heap_numbers_its_objects(rt: HostRuntime) -> Result<(), Fail> {
     let mut heap = Heap::new(rt.alloc());
-    for class in [4u32, 2] {
-        let mut props = Seq::new(rt.alloc());
-        props.push(Cell::Null)?;
-        heap.add(Object { class, props })?;
-    }
+    heap.add(object(rt.alloc(), 4)?)?;
+    heap.add(object(rt.alloc(), 2)?)?;
     if let Some(object) = heap.get_mut(1) {
         object.class = 3;
     }
