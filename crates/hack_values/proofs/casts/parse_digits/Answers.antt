@@ -1,4 +1,4 @@
-use Rattle.std.proofs.Common.{◌≡◌, ◌∙◌, ◌<◌, ◌^◌, true, length, get_or, arith, rules}
+use Rattle.std.proofs.Common.{◌≡◌, ◌∙◌, true, get_or, arith, rules}
 use Rattle.hack_values.specs.Casts.{is_digit}
 use Rattle.hack_values.proofs.Digits.{number_after-read}
 use Rattle.hack_values.proofs.casts.parse_digits.Goals as goal
