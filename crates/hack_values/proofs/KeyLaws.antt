@@ -1,5 +1,5 @@
 -- Laws of keys and of lists of distinct keys.
-use Rattle.std.proofs.Common.{◌≡◌, ℕ, zero, suc, ◌+◌, Bool, true, false, List, [], ◌∷◌, ◌++◌, length, refl, ap, arith, cond, Some, None, nat_lt, subst}
+use Rattle.std.proofs.Common.{◌≡◌, ℕ, zero, suc, ◌+◌, Bool, true, false, List, [], ◌∷◌, ◌++◌, length, refl, ap, sym, arith, cond, Option, Some, None, IsSome, is_some, nat_lt, subst}
 use Rattle.std.specs.List.{position_or_len, remove}
 use Rattle.std.proofs.lemmas.Slice.Eq.{bytes_eq-Decides}
 use Rattle.std.proofs.lemmas.Bool.Decides.{Decides-int_eq}
@@ -75,3 +75,24 @@ keys_weight-push [] k = omega arith
 keys_weight-push (j ∷ ks) k = omega (arith, keys_weight-push ks k)
 
 pub ruleset weighs = (keys_weight-push)
+
+-- a key has a place exactly where it is there
+position_or_len-absent : (k : Key) (ks : List Key) → has_key k ks ≡ false → nat_lt (position_or_len (key_eq k) ks) (length ks) ≡ false
+position_or_len-absent k [] e = refl
+position_or_len-absent k (j ∷ ks) e = by_test (key_eq k j) (λ h. absurd (grind (arith, e, h))) (λ h. grind (arith, e, h, position_or_len-absent k ks))
+
+has_key-at_place : (k : Key) (ks : List Key) (b : Bool) → has_key k ks ≡ b → IsSome (place k ks) → has_key k ks ≡ true
+has_key-at_place k ks true e h = e
+has_key-at_place k ks false e h = absurd (grind (arith, position_or_len-absent k ks e, h))
+
+place-there : (k : Key) (ks : List Key) (o : Option ℕ) → place k ks ≡ o → has_key k ks ≡ true → IsSome (place k ks)
+place-there k ks None e h = let absent = has_key-no_place k ks e in absurd (cc)
+place-there k ks (Some at) e h = ap is_some e
+
+pub has_key-found : (r : Option ℕ) (k : Key) (ks : List Key) → r ≡ place k ks → IsSome r → has_key k ks ≡ true
+has_key-found r k ks e h = has_key-at_place k ks (has_key k ks) refl (subst (λ o. IsSome o) e h)
+
+pub found-has_key : (r : Option ℕ) (k : Key) (ks : List Key) → r ≡ place k ks → has_key k ks ≡ true → IsSome r
+found-has_key r k ks e h = subst (λ o. IsSome o) (sym e) (place-there k ks (place k ks) refl h)
+
+pub ruleset places = (has_key-found, found-has_key)

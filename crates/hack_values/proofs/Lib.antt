@@ -1,2 +1,5 @@
 pub mod KeyLaws
 pub mod Rows
+pub mod Digits
+pub mod SameLaws
+pub mod Listing

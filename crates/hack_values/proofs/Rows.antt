@@ -1,5 +1,5 @@
 -- Lists of cells and lists of entries as values.
-use Rattle.std.proofs.Common.{◌≡◌, ℕ, zero, suc, ◌+◌, ◌<◌, max, List, [], ◌∷◌, ◌++◌, length, refl, ap, sym, ◌∙◌, arith, Option, Some, None, slice_set, slice_get, slice_index_or}
+use Rattle.std.proofs.Common.{◌≡◌, ℕ, zero, suc, ◌+◌, ◌<◌, max, List, [], ◌∷◌, ◌++◌, length, refl, ap, sym, ◌∙◌, arith, Some, slice_set, slice_get, slice_index_or}
 use Rattle.std.specs.List.{zip, remove}
 use base.Fml.{GName}
 use borrow.Follows.Closed.{read_of}

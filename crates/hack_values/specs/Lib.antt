@@ -5,3 +5,8 @@ pub mod View
 pub mod Falls
 pub mod Known
 pub mod Limits
+pub mod Same
+pub mod Casts
+pub mod Operations
+pub mod Show
+pub mod Natives

@@ -1,4 +1,6 @@
-ghost use Rattle.std.specs.Prelude.{◌≡◌, [], length, IfOk};
+ghost use Rattle.std.specs.Prelude.{◌≡◌, [], true, length, IfOk};
+ghost use Rattle.std.specs.Map.{keys_of};
+ghost use Rattle.hack_values.specs.Keys.{distinct};
 ghost use Rattle.hack_values.specs.View.{cells_of};
 
 use crate::key::copy_keys;
@@ -193,7 +195,8 @@ impl DictVal {
     /// How many entries it has.
     #[tactic(auto, using(crate::proofs::Rows::entries))]
     pub fn len(&self) -> usize
-        ensures { result ≡ length self.now }
+        ensures count { result ≡ length self.now }
+        ensures distinct { distinct (keys_of self.now) ≡ true }
     {
         self.keys.len()
     }

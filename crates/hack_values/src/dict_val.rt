@@ -1,9 +1,9 @@
-ghost use Rattle.std.specs.Prelude.{◌≡◌, ◌<◌, ◌↔◌, ◌++◌, [], ◌∷◌, length, IsTrue, IsSome, IfSome, OnOk, OnErr, Some, None, Err, slice_get};
+ghost use Rattle.std.specs.Prelude.{◌≡◌, ◌<◌, ◌↔◌, ◌++◌, [], ◌∷◌, length, IsTrue, IsSome, IfSome, OnOk, OnErr, Some, None, Err, true, slice_get};
 ghost use Rattle.std.specs.Borrow.{sem, LendsIf};
 ghost use Rattle.std.specs.Map.{keys_of, values_of};
 ghost use Rattle.hack_values.specs.contracts.cell.Cell.{the_row as cell_row};
 ghost use Rattle.hack_values.specs.contracts.cell.DictVal.{the_row as dict_row};
-ghost use Rattle.hack_values.specs.Keys.{place, put_entry, remove_entry, set_value};
+ghost use Rattle.hack_values.specs.Keys.{has_key, place, put_entry, remove_entry, set_value};
 ghost use Rattle.hack_values.specs.Limits.{IsTooLarge, IsTooDeep};
 ghost use Rattle.hack_values.specs.Val.{from_pairs};
 ghost use Rattle.hack_values.specs.Val.Val.{dict};
@@ -30,9 +30,10 @@ impl DictVal {
     }
 
     /// Where the key stands; None where it isn't there. Walks over the keys.
-    #[tactic(auto, using(crate::proofs::Rows::entries))]
+    #[tactic(auto, using(crate::proofs::Rows::entries, crate::proofs::KeyLaws::places))]
     pub fn find(&self, key: &Key) -> Option<usize>
-        ensures { result ≡ place key.now (keys_of self.now) }
+        ensures place { result ≡ place key.now (keys_of self.now) }
+        ensures there { IsSome result ↔ (has_key key.now (keys_of self.now) ≡ true) }
     {
         place_of(self.keys.as_slice(), key)
     }
@@ -110,7 +111,10 @@ impl DictVal {
         ensures large { (result ≡ Err ValueFault.TooLarge) ↔ IsTooLarge (dict (from_pairs (self.old ++ (key, val_of value) ∷ []))) }
         ensures deep { (result ≡ Err ValueFault.TooDeep) ↔ IsTooDeep (dict (from_pairs (self.old ++ (key, val_of value) ∷ []))) }
     {
-        let weight = self.weight().saturating_add(key.weight()).saturating_add(value.weight());
+        let weight = self
+            .weight()
+            .saturating_add(key.weight())
+            .saturating_add(value.weight());
         if weight > MAX_WEIGHT {
             return Err(ValueFault::TooLarge);
         }
@@ -118,9 +122,7 @@ impl DictVal {
         if depth > MAX_DEPTH {
             return Err(ValueFault::TooDeep);
         }
-        let Ok(()) = self.keys.push(key) else {
-            return Err(ValueFault::NoMemory);
-        };
+        self.keys.push(key)?;
         let Ok(()) = self.vals.push(value) else {
             self.keys.pop();
             return Err(ValueFault::NoMemory);

@@ -1,5 +1,5 @@
-ghost use Rattle.std.specs.Prelude.{◌≡◌, [], ◌<◌, ◌↔◌, length, IfOk, OnOk, OnErr, IsTrue, IsSome, IfSome, Some, Err, slice_get};
-ghost use Rattle.hack_values.specs.Keys.{place, remove_key, with_key};
+ghost use Rattle.std.specs.Prelude.{◌≡◌, [], ◌<◌, ◌↔◌, length, IfOk, OnOk, OnErr, IsTrue, IsSome, IfSome, Some, Err, true, slice_get};
+ghost use Rattle.hack_values.specs.Keys.{distinct, has_key, place, remove_key, with_key};
 ghost use Rattle.hack_values.specs.Limits.{IsTooLarge, IsTooDeep};
 ghost use Rattle.hack_values.specs.Val.Val.{keyset};
 
@@ -50,7 +50,8 @@ impl KeysetVal {
 
     /// How many keys it has.
     pub fn len(&self) -> usize
-        ensures { result ≡ length self.now }
+        ensures count { result ≡ length self.now }
+        ensures distinct { distinct self.now ≡ true }
     {
         self.items.len()
     }
@@ -64,8 +65,10 @@ impl KeysetVal {
     }
 
     /// Where the key stands; None where it isn't there. Walks over the keys.
+    #[tactic(auto, using(crate::proofs::KeyLaws::places))]
     pub fn find(&self, key: &Key) -> Option<usize>
-        ensures { result ≡ place key.now self.now }
+        ensures place { result ≡ place key.now self.now }
+        ensures there { IsSome result ↔ (has_key key.now self.now ≡ true) }
     {
         place_of(self.items.as_slice(), key)
     }
@@ -105,9 +108,7 @@ impl KeysetVal {
                 if weight.saturating_add(key.weight()) > MAX_WEIGHT {
                     return Err(ValueFault::TooLarge);
                 }
-                let Ok(()) = self.items.push(key) else {
-                    return Err(ValueFault::NoMemory);
-                };
+                self.items.push(key)?;
                 Ok(())
             }
         }

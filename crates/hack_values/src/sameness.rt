@@ -1,4 +1,5 @@
 ghost use Rattle.std.specs.Prelude.{◌≡◌, ◌↔◌, IsTrue};
+ghost use Rattle.hack_values.specs.Same.{is_same};
 
 use crate::key::{same_key, same_text};
 use crate::{Cell, DictVal, Key, KeysetVal, VecVal};
@@ -24,8 +25,16 @@ fn same_keyset(a: &KeysetVal, b: &KeysetVal) -> bool
 }
 
 /// Whether two cells are the same: part by part, in order, and objects by their number.
-#[cycle(same)]
+#[tactic(auto, using(crate::proofs::SameLaws::decided))]
 pub fn same(a: &Cell, b: &Cell) -> bool
+    ensures value { result ≡ is_same a.now b.now }
+    ensures equal { IsTrue result ↔ (a.now ≡ b.now) }
+{
+    same_cell(a, b)
+}
+
+#[cycle(same)]
+fn same_cell(a: &Cell, b: &Cell) -> bool
     ensures { IsTrue result ↔ (a.now ≡ b.now) }
 {
     match (a, b) {
@@ -66,7 +75,7 @@ fn same_cells(a: &[Cell], b: &[Cell]) -> bool
         return false;
     }
     for at in 0..a.len() {
-        if !same(&a[at], &b[at]) {
+        if !same_cell(&a[at], &b[at]) {
             return false;
         }
     }

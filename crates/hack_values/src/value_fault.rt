@@ -1,4 +1,6 @@
-use crate::NoMemory;
+ghost use Rattle.std.specs.Prelude.{◌≡◌};
+
+use std::alloc::AllocFailed;
 
 /// Why a container refused a value.
 #[derive(Clone, Copy, Debug, PartialEq, Eq)]
@@ -10,8 +12,12 @@ pub enum ValueFault {
     NoMemory,
 }
 
-impl From<NoMemory> for ValueFault {
-    fn from(_refusal: NoMemory) -> ValueFault {
+impl<T: Drop> From<AllocFailed<T>> for ValueFault {
+    ghost use Rattle.hack_values.specs.declared.value_fault.ValueFault.{ValueFault};
+
+    ghost from_gives = { λ _ fault. fault ≡ ValueFault.NoMemory };
+
+    fn from(_refusal: AllocFailed<T>) -> ValueFault {
         ValueFault::NoMemory
     }
 }

@@ -39,9 +39,7 @@ impl VecVal {
         if depth > MAX_DEPTH {
             return Err(ValueFault::TooDeep);
         }
-        let Ok(()) = self.items.push(value) else {
-            return Err(ValueFault::NoMemory);
-        };
+        self.items.push(value)?;
         self.known = Some(Known { weight, depth });
         Ok(())
     }

@@ -1,4 +1,4 @@
-use Rattle.std.proofs.Common.{◌≡◌, refl, sym, ◌∙◌, ap, rules, arith}
+use Rattle.std.proofs.Common.{◌∙◌, ap, rules}
 use Rattle.hack_values.specs.View.{val_of, item-vals}
 use Rattle.hack_values.specs.Keys.{set_value}
 use Rattle.hack_values.proofs.Rows.{set-entries, length-vals, length-entries, values-entries, lent}

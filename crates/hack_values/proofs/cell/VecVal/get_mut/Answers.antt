@@ -1,4 +1,4 @@
-use Rattle.std.proofs.Common.{◌≡◌, refl, sym, ◌∙◌, ap, rules, slice_set, arith}
+use Rattle.std.proofs.Common.{◌∙◌, ap, rules, slice_set}
 use Rattle.hack_values.specs.View.{val_of, item-vals}
 use Rattle.hack_values.proofs.Rows.{vals-set, length-vals, lent}
 use Rattle.hack_values.proofs.cell.VecVal.get_mut.Goals as goal
