@@ -1,0 +1,4 @@
+pub mod Annotated
+pub mod Chain
+pub mod Rounds
+pub mod Solution
