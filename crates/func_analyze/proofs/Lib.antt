@@ -1,1 +1,2 @@
+mod ChainLeast
 mod Examples
