@@ -1,2 +1,4 @@
+mod ChainAnnotated
 mod ChainLeast
+mod ChainRounds
 mod Examples
