@@ -43,8 +43,8 @@ are_least : (count : ℕ) (b : Body) → b.regions ≡ [] → FitPositions count
 are_least count b g w F = record {
   count = refl;
   least = λ n T e.
-    let x = one_table b n T e in
-    subst (λ n. IsLeast (only (bare_body b)) F n T) (sym x.0)
+      let x = one_table b n T e in
+      subst (λ n. IsLeast (only (bare_body b)) F n T) (sym x.0)
       (subst (λ (T : Table). IsLeast (only (bare_body b)) F 0 T) (sym x.1) (chain_least count b g w F));
 }
 
@@ -54,7 +54,7 @@ returned_join count b w F zero T t e f =
     let x : states_of b ≡ T = cc in
     let y : end_of b ≡ t = cc in
     subst (λ (T : Table). IsJoin built_in_tree (IsReturned (only (bare_body b)) F 0 T) t) x
-      (subst (λ (t : HType). IsJoin built_in_tree (IsReturned (only (bare_body b)) F 0 (states_of b)) t) y (joined count b w F))
+    (subst (λ (t : HType). IsJoin built_in_tree (IsReturned (only (bare_body b)) F 0 (states_of b)) t) y (joined count b w F))
 returned_join count b w F (suc n) T t e f = absurd (cc)
 
 -- the only body writes nothing
@@ -62,11 +62,11 @@ not_written : (b : Body) (F : Facts) (q : ℕ) (t : HType) → IsWritten (only (
 not_written b F q t i =
     let x = one_table b i.body i.table i.at in
     let h : HasState (chain b.positions (Some (entry_state b))) i.position i.state =
-      subst (λ (T : Table). HasState T i.position i.state) x.1 i.reached in
+    subst (λ (T : Table). HasState T i.position i.state) x.1 i.reached in
     let y = within b.positions (Some (entry_state b)) i.position i.state h in
     let g = flow_gives b F i.position y.0 i.state y.1 in
     let c : Contains (flow (only (bare_body b)) F 0 i.position i.state).effects (record { property = q; type = t }) =
-      subst (λ n. Contains (flow (only (bare_body b)) F n i.position i.state).effects (record { property = q; type = t })) x.0 i.written in
+    subst (λ n. Contains (flow (only (bare_body b)) F n i.position i.state).effects (record { property = q; type = t })) x.0 i.written in
     nothing_in _ (subst (λ (es : List Effect). Contains es (record { property = q; type = t })) g.effects c)
 
 held : (b : Body) (F : Facts) (q : ℕ) (t : HType) → slice_get (any_string ∷ []) q ≡ Some t
@@ -106,16 +106,16 @@ annotates count b g w n = record {
   tables = states_of b ∷ [];
   least = are_least count b g w (facts_of b);
   is =
-    ap (λ (ps : List Position). only (record b { stated = Some (end_of b); positions = ps }))
+      ap (λ (ps : List Position). only (record b { stated = Some (end_of b); positions = ps }))
       (sym (claims_bare b.positions (states_of b)));
 }
 
 pub chain_annotates : ChainAnnotates
 chain_annotates r form n =
     subst (λ (r : Linked). IsAnnotated (suc n) r (annotated_by r)) (sym (first_is r form))
-      (annotates _ form.body form.first.regions form.first.positions n)
+    (annotates _ form.body form.first.regions form.first.positions n)
 
 pub chain_is_least : ChainIsLeast
 chain_is_least r form F =
     subst (λ (r : Linked). IsLeast (bare r) F 0 (chain form.body.positions (Some (entry_state form.body)))) (sym (first_is r form))
-      (chain_least _ form.body form.first.regions form.first.positions F)
+    (chain_least _ form.body form.first.regions form.first.positions F)

@@ -48,8 +48,8 @@ code_flow_to r F n b p None c s g e = absurd (cc)
 code_flow_to r F n b p (Some d) c s g e =
     let k : d ≡ c = cc in
     subst (λ (c : Code). (code_flow r F n b p (Some d) s).to ≡ to_behind p (state_behind c (Some s))) k
-      (gathered (row r F n d s) p _ (row-straight r F n d s) (no_handler (throws d) b p s g)
-        ∙ ap (λ (w : Row). to_behind p (if_alive w.behind)) (same_row r no_repo F no_facts n 0 d s))
+    (gathered (row r F n d s) p _ (row-straight r F n d s) (no_handler (throws d) b p s g)
+    ∙ ap (λ (w : Row). to_behind p (if_alive w.behind)) (same_row r no_repo F no_facts n 0 d s))
 
 pub code_there : (b : Body) (p : ℕ) (q : Position) → slice_get b.positions p ≡ Some q → code_at (bare_body b) p ≡ Some q.code
 code_there b p q e = rw (slice_get-map bare_position b.positions p, e) refl
@@ -158,10 +158,10 @@ solves count b g w F = record {
   count = chain_length b.positions (Some (entry_state b)) ∙ sym (length-map b.positions bare_position);
   enters = (entry_state b, begins count b.positions (entry_state b) w, StateLe-refl built_in_tree (entry_state b));
   closed = λ p s e q t m.
-    let x = within b.positions (Some (entry_state b)) p s e in
-    let f = in_behind p (state_behind x.0.code (Some s)) q t (subst (λ (to : List (ℕ × State)). Contains to (q, t)) (flow_to b g F p x.0 s x.1) m) in
-    let n = chain_on count b.positions (Some (entry_state b)) p s t x.0 w e x.1 f.1 in
-    (t, subst (λ k. HasState (chain b.positions (Some (entry_state b))) k t) (sym f.0) n, StateLe-refl built_in_tree t);
+      let x = within b.positions (Some (entry_state b)) p s e in
+      let f = in_behind p (state_behind x.0.code (Some s)) q t (subst (λ (to : List (ℕ × State)). Contains to (q, t)) (flow_to b g F p x.0 s x.1) m) in
+      let n = chain_on count b.positions (Some (entry_state b)) p s t x.0 w e x.1 f.1 in
+      (t, subst (λ k. HasState (chain b.positions (Some (entry_state b))) k t) (sym f.0) n, StateLe-refl built_in_tree t);
 }
 
 below_all : (count : ℕ) (b : Body) → b.regions ≡ [] → FitPositions count b.positions → (F : Facts) (U : Table) → IsSolution (only (bare_body b)) F 0 U

@@ -41,10 +41,10 @@ code_gives r F n b p None c s e = absurd (cc)
 code_gives r F n b p (Some d) c s e =
     let k : d ≡ c = cc in
     subst (λ (c : Code). Gives (code_flow r F n b p (Some d) s) (row_of c s).returned) k
-      (record {
-        returned = ap (λ (w : Row). w.returned) (same_row r no_repo F no_facts n 0 d s);
-        effects = ap (λ (es : List Effect). filter has_type es) (row-straight r F n d s).effects;
-      })
+    (record {
+      returned = ap (λ (w : Row). w.returned) (same_row r no_repo F no_facts n 0 d s);
+      effects = ap (λ (es : List Effect). filter has_type es) (row-straight r F n d s).effects;
+    })
 
 pub flow_gives : (b : Body) (F : Facts) (p : ℕ) (q : Position) (s : State) → slice_get b.positions p ≡ Some q
     → Gives (flow (only (bare_body b)) F 0 p s) (row_of q.code s).returned
@@ -116,12 +116,11 @@ end_of b = returned_at_end b.positions (Some (entry_state b))
 
 pub joined : (count : ℕ) (b : Body) → FitPositions count b.positions → (F : Facts)
     → IsJoin built_in_tree (IsReturned (only (bare_body b)) F 0 (states_of b)) (end_of b)
-
 joined count b w F = record {
   above = λ t i.
-    let x = within b.positions (Some (entry_state b)) i.position i.state i.reached in
-    let g = flow_gives b F i.position x.0 i.state x.1 in
-    subst (λ (t : HType). Le built_in_tree t (returned_at_end b.positions (Some (entry_state b)))) (sym g.returned ∙ i.returned)
+      let x = within b.positions (Some (entry_state b)) i.position i.state i.reached in
+      let g = flow_gives b F i.position x.0 i.state x.1 in
+      subst (λ (t : HType). Le built_in_tree t (returned_at_end b.positions (Some (entry_state b)))) (sym g.returned ∙ i.returned)
       (below_end count b.positions (Some (entry_state b)) i.position i.state x.0 w i.reached x.1);
   least = λ u proper h. least u h (end_is b.positions (Some (entry_state b)));
 }

@@ -44,9 +44,11 @@ built_in_transitive a b c h k = by_case (below_built_in a b h)
   where
     at_root : b ≡ 0 → c ≡ 0 → below built_in_tree a c ≡ true
     at_root e f = subst (λ x. below built_in_tree a x ≡ true) (e ∙ sym f) h
+
     either : b ≡ 0 → (c ≡ 0) ⊎ (c ≡ 0) → below built_in_tree a c ≡ true
     either e (inl f) = at_root e f
     either e (inr f) = at_root e f
+
     by_case : (b ≡ a) ⊎ (b ≡ 0) → below built_in_tree a c ≡ true
     by_case (inl e) = subst (λ x. below built_in_tree x c ≡ true) e k
     by_case (inr e) = either e (below_built_in 0 c (subst (λ x. below built_in_tree x c ≡ true) e k))

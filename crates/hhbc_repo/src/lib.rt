@@ -3,8 +3,10 @@
 
 mod body;
 mod code;
+mod laws;
 mod repo;
 
 pub use body::{Assert, Body, Position, Region};
 pub use code::{Arm, Base, Code, Final, Imm, Instr, MemberKey, MemberSeq};
+pub use laws::types_where_it_walks;
 pub use repo::{Class, Const, Property, Repo};
