@@ -2,3 +2,4 @@ mod ChainAnnotated
 mod ChainLeast
 mod ChainRounds
 mod Examples
+mod Sound

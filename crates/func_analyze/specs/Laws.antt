@@ -3,7 +3,8 @@ use Rattle.std.specs.Prelude.{◌≡◌, ℕ, suc, Some}
 use Rattle.hhbc_repo.specs.Linked.{Linked}
 use Rattle.hhbc_repo.specs.Form.{IsFirstForm}
 use Rattle.hhbc_repo.specs.Bare.{bare}
-use Rattle.hhbc_repo.specs.Truth.{Facts}
+use Rattle.hhbc_repo.specs.Truth.{Facts, IsFaithful}
+use Rattle.hhbc_repo.specs.Shapes.{Types}
 use Rattle.abstract_step.specs.State.{entry_state}
 use Rattle.func_analyze.specs.Solution.{IsLeast}
 use Rattle.func_analyze.specs.Annotated.{IsAnnotated}
@@ -18,3 +19,7 @@ ChainIsLeast =
 -- what they annotate is the annotated repository after any number of rounds from 1
 abbrev pub ChainAnnotates : Type 0
 ChainAnnotates = (r : Linked) → IsFirstForm r → (n : ℕ) → IsAnnotated (suc n) r (annotated_by r)
+
+-- the annotated repository runs as the original does, all its claims are true, and no run of either is stuck
+abbrev pub AnnotatedIsFaithful : Type 0
+AnnotatedIsFaithful = (r a : Linked) → IsFirstForm r → Types r → (n : ℕ) → IsAnnotated (suc n) r a → IsFaithful r a

@@ -65,7 +65,7 @@ edges_are count b p (Some d) c g e h =
     (rw (no_labels count d (subst (λ (c : Code). FitsCode count c) k h), no_handler (throws d) b p g) (append_none (next_edges (goes_on d) p ++ []) ∙ append_none (next_edges (goes_on d) p)))
 
 -- the positions of the first form
-fits_at : (count : ℕ) (ps : List Position) (p : ℕ) (q : Position) → FitPositions count ps → slice_get ps p ≡ Some q → FitsPosition count q
+pub fits_at : (count : ℕ) (ps : List Position) (p : ℕ) (q : Position) → FitPositions count ps → slice_get ps p ≡ Some q → FitsPosition count q
 fits_at count [] p q w e = absurd w
 fits_at count (x ∷ []) zero q w e = let k : x ≡ q = cc in subst (λ (y : Position). FitsPosition count y) k w.0
 fits_at count (x ∷ []) (suc p) q w e = absurd (cc)
@@ -85,7 +85,7 @@ is_last count (x ∷ []) (suc p) q w e l = absurd (cc)
 is_last count (x ∷ y ∷ ps) zero q w e l = absurd (omega arith)
 is_last count (x ∷ y ∷ ps) (suc p) q w e l = is_last count (y ∷ ps) p q w.2 e (omega arith)
 
-there : (ps : List Position) (p : ℕ) → p < length ps → (q : Position) × (slice_get ps p ≡ Some q)
+pub there : (ps : List Position) (p : ℕ) → p < length ps → (q : Position) × (slice_get ps p ≡ Some q)
 there [] p l = absurd (omega arith)
 there (x ∷ ps) zero l = (x, refl)
 there (x ∷ ps) (suc p) l = there ps p (omega arith)
@@ -256,7 +256,7 @@ deepest_last (x ∷ xs) y m h k =
     let ih = deepest_last xs y m (omega arith) k in
     omega (arith, ih, h)
 
-asserts_none : (b : Body) (p : ℕ) (q : Position) → slice_get b.positions p ≡ Some q → q.asserts ≡ [] → asserts_at b p ≡ []
+pub asserts_none : (b : Body) (p : ℕ) (q : Position) → slice_get b.positions p ≡ Some q → q.asserts ≡ [] → asserts_at b p ≡ []
 asserts_none b p q e f = rw (e, f) refl
 
 few_cells : (n l d i : ℕ) → n ≤ 200 → l ≤ 255 → d ≤ 200 → i ≡ 0 → n * (l + d + i) ≤ 1000000
@@ -305,7 +305,7 @@ module _ (b : Body) (form : IsFirstBody b) where
       rw a (pass_append (edge_checks b (behind q.code (given b p)) (suc p)) [] (next_pass p (behind q.code (given b p)) (l refl) h d) tt)
   on_edges p q e false l = tt
 
-  goes_within : (p : ℕ) (q : Position) → slice_get b.positions p ≡ Some q → p < length b.positions → goes_on q.code ≡ true → suc p < length b.positions
+  pub goes_within : (p : ℕ) (q : Position) → slice_get b.positions p ≡ Some q → p < length b.positions → goes_on q.code ≡ true → suc p < length b.positions
   goes_within p q e l o = within (nat_lt (suc p) (length b.positions)) refl
     where
       within : (t : Bool) → nat_lt (suc p) (length b.positions) ≡ t → suc p < length b.positions
@@ -341,7 +341,7 @@ module _ (b : Body) (form : IsFirstBody b) where
       (rest_pass p q e l))
 
   -- the stack behind a code
-  stack_behind : (c : Code) (s : Shape) → length (behind c s).stack ≡ length (pushes c) + (length s.stack - length (pops c))
+  pub stack_behind : (c : Code) (s : Shape) → length (behind c s).stack ≡ length (pushes c) + (length s.stack - length (pops c))
   stack_behind c s =
       let a = length-append (pushes c) (drop (length (pops c)) s.stack) in
       let d = length-drop (length (pops c)) s.stack in

@@ -12,6 +12,8 @@ use Rattle.hhbc_repo.specs.declared.repo.Property.{Property}
 use Rattle.hhbc_repo.specs.Linked.{Linked}
 use Rattle.hhbc_repo.specs.Bodies.{bodies, tree_of, properties_of}
 use Rattle.hhbc_repo.specs.Bare.{bare}
+use Rattle.hhbc_repo.specs.Form.{IsFirstForm}
+use Rattle.hhbc_repo.specs.Shapes.{Types}
 use Rattle.hhbc_repo.specs.Outcome.{Why, Stuck}
 use Rattle.hhbc_repo.specs.Machine.{World, Frame, Turn, Returns, turn}
 use Rattle.hhbc_repo.specs.Steps.{Config, Running, Ended}
@@ -99,3 +101,7 @@ pub record IsFaithful (r a : Linked) : Type 0 where
   pub runs : RunsAs a r
   pub claims : ClaimsAreTrue a
   pub never : IsNeverStuck r × IsNeverStuck a
+
+-- no run of a repository of the first form that keeps to its shapes is stuck
+abbrev pub FirstFormNeverSticks : Type 0
+FirstFormNeverSticks = (r : Linked) → IsFirstForm r → Types r → IsNeverStuck r

@@ -8,5 +8,5 @@ mod repo;
 
 pub use body::{Assert, Body, Position, Region};
 pub use code::{Arm, Base, Code, Final, Imm, Instr, MemberKey, MemberSeq};
-pub use laws::types_where_it_walks;
+pub use laws::{first_form_never_sticks, types_where_it_walks};
 pub use repo::{Class, Const, Property, Repo};
