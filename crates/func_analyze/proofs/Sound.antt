@@ -64,15 +64,17 @@ module _ (b : Body) (g : b.regions ≡ []) (F : Facts) (T : Table) (solves : IsS
   sound_turn f w q (Goes x v) h e k =
       let s = behind_state x w.heap (row_of q.code h.state).behind k.0 in
       let m : Contains (flow (only (bare_body b)) F 0 f.position h.state).to (suc f.position, s.0) =
-        subst (λ (to : List (ℕ × State)). Contains to (suc f.position, s.0)) (sym (flow_to b g F f.position q h.state e))
-          (behind_in f.position (state_behind q.code (Some h.state)) s.0 s.1) in
-      let a = solves.closed f.position h.state h.at (suc f.position) s.0 m in
-      (refl, record {
-        body = k.2 ∙ h.body;
-        state = a.0;
-        at = subst (λ n. HasState T n a.0) (sym k.1) a.1;
-        lies = subst (λ (u : World). Lies built_in_tree x u.heap a.0) (sym k.3) (lies_above x w.heap s.0 a.0 a.2 s.2);
-      })
+      subst (λ (to : List (ℕ × State)). Contains to (suc f.position, s.0)) (sym (flow_to b g F f.position q h.state e))
+      (behind_in f.position (state_behind q.code (Some h.state)) s.0 s.1) in
+      let a = solves.closed f.position h.state h.at (suc f.position) s.0 m in (
+        refl,
+        record {
+          body = k.2 ∙ h.body;
+          state = a.0;
+          at = subst (λ n. HasState T n a.0) (sym k.1) a.1;
+          lies = subst (λ (u : World). Lies built_in_tree x u.heap a.0) (sym k.3) (lies_above x w.heap s.0 a.0 a.2 s.2);
+        },
+      )
   sound_turn f w q (Calls x v) h e k = absurd k
   sound_turn f w q (Returns c v) h e k = tt
   sound_turn f w q (Raises c v) h e k = rw (uncaught_here (bare_body b) f c h.body g) tt
@@ -83,9 +85,9 @@ module _ (b : Body) (g : b.regions ≡ []) (F : Facts) (T : Table) (solves : IsS
       → Fits built_in_tree f w (row_of q.code h.state) (turn (only (bare_body b)) f w)
   fits_here f w q h e =
       subst (λ (t : Turn). Fits built_in_tree f w (row_of q.code h.state) t) (sym (turn_is b f w q h.body e))
-        (fits_code built_in_tree f w no_repo no_facts 0 q.code (bare_body b) h.state h.lies)
+      (fits_code built_in_tree f w no_repo no_facts 0 q.code (bare_body b) h.state h.lies)
 
-  no_turn : (f : Frame) (w : World) → f.body ≡ 0 → slice_get b.positions f.position ≡ None → turn (only (bare_body b)) f w ≡ Ends (Sticks Underflow) w
+  pub no_turn : (f : Frame) (w : World) → f.body ≡ 0 → slice_get b.positions f.position ≡ None → turn (only (bare_body b)) f w ≡ Ends (Sticks Underflow) w
   no_turn f w z e =
       let c : code_at (bare_body b) f.position ≡ None = rw (slice_get-map bare_position b.positions f.position, e) refl in
       ap (λ (o : Option Body). turn_in o f w) (only_at (bare_body b) f.body z) ∙ ap (λ (o : Option Code). perform_code o (bare_body b) f w) c
@@ -126,13 +128,15 @@ module _ (b : Body) (g : b.regions ≡ []) (F : Facts) (T : Table) (solves : IsS
       → Sound T (cond t (Running (entered 0 b args) [] no_world) (Ended WrongCount no_world))
   sound_counted true args e =
       let k : bare_body b ≡ solves.body = let h = solves.at in cc in
-      let a = subst (λ (c : Body). HasAbove (only (bare_body b)) T 0 (entry_state c)) (sym k) solves.enters in
-      (refl, record {
-        body = refl;
-        state = a.0;
-        at = a.1;
-        lies = lies_above (entered 0 b args) [] (entry_state b) a.0 a.2 (entered_lies args ((Decides-eqb (length args) b.params).0 e));
-      })
+      let a = subst (λ (c : Body). HasAbove (only (bare_body b)) T 0 (entry_state c)) (sym k) solves.enters in (
+        refl,
+        record {
+          body = refl;
+          state = a.0;
+          at = a.1;
+          lies = lies_above (entered 0 b args) [] (entry_state b) a.0 a.2 (entered_lies args ((Decides-eqb (length args) b.params).0 e));
+        },
+      )
   sound_counted false args e = tt
 
   sound_named : (t : Bool) (args : List Cell) → Sound T (start_in (cond t (Some (0, b)) None) args)
