@@ -1,0 +1,5 @@
+pub mod Annotated
+pub mod Chain
+pub mod Laws
+pub mod Rounds
+pub mod Solution

@@ -1,2 +1,6 @@
-//! To be written.
+//! Least solutions of the flow of a body, and facts after rounds over all bodies.
 #![tactic(auto)]
+
+mod laws;
+
+pub use laws::{annotated_is_faithful, chain_annotates, chain_is_least};

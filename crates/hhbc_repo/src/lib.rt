@@ -3,6 +3,7 @@
 
 mod body;
 mod code;
+mod laws;
 mod parts;
 mod repo;
 
@@ -12,4 +13,5 @@ pub use parts::{
     ArmParts, AssertParts, BaseParts, BodyParts, ClassParts, CodeParts, FinalParts, ImmParts,
     InstrParts, ItemParts, MemberKeyParts, MemberSeqParts, PositionParts, PropertyParts, TypeParts,
 };
+pub use laws::{first_form_never_sticks, types_where_it_walks};
 pub use repo::{Class, Const, Property, Repo};

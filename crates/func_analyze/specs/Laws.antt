@@ -1,0 +1,25 @@
+-- How the states along a body without jumps answer the definitions.
+use Rattle.std.specs.Prelude.{◌≡◌, ℕ, suc, Some}
+use Rattle.hhbc_repo.specs.Linked.{Linked}
+use Rattle.hhbc_repo.specs.Form.{IsFirstForm}
+use Rattle.hhbc_repo.specs.Bare.{bare}
+use Rattle.hhbc_repo.specs.Truth.{Facts, IsFaithful}
+use Rattle.hhbc_repo.specs.Shapes.{Types}
+use Rattle.abstract_step.specs.State.{entry_state}
+use Rattle.func_analyze.specs.Solution.{IsLeast}
+use Rattle.func_analyze.specs.Annotated.{IsAnnotated}
+use Rattle.func_analyze.specs.Chain.{chain, annotated_by}
+
+-- in a repository of the first form they are the least solution, under any facts
+abbrev pub ChainIsLeast : Type 0
+ChainIsLeast =
+    (r : Linked) (form : IsFirstForm r) (F : Facts)
+    → IsLeast (bare r) F 0 (chain form.body.positions (Some (entry_state form.body)))
+
+-- what they annotate is the annotated repository after any number of rounds from 1
+abbrev pub ChainAnnotates : Type 0
+ChainAnnotates = (r : Linked) → IsFirstForm r → (n : ℕ) → IsAnnotated (suc n) r (annotated_by r)
+
+-- the annotated repository runs as the original does, all its claims are true, and no run of either is stuck
+abbrev pub AnnotatedIsFaithful : Type 0
+AnnotatedIsFaithful = (r a : Linked) → IsFirstForm r → Types r → (n : ℕ) → IsAnnotated (suc n) r a → IsFaithful r a

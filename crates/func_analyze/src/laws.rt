@@ -1,0 +1,20 @@
+//! Laws of the definitions, each the contract of a function that does nothing.
+
+ghost use Rattle.func_analyze.specs.Laws.{AnnotatedIsFaithful, ChainAnnotates, ChainIsLeast};
+
+/// The states along a body without jumps, each made from the one before it, are its least solution.
+pub fn chain_is_least()
+    ensures { ChainIsLeast }
+{}
+
+/// What these states return and assert is the annotated repository, after any number of rounds from 1.
+pub fn chain_annotates()
+    ensures { ChainAnnotates }
+{}
+
+/// A repository of the first form that keeps to its shapes, annotated after any number of rounds
+/// from 1, runs as before with its assertions tested; all its claims are true in every run, and no
+/// run of either is stuck.
+pub fn annotated_is_faithful()
+    ensures { AnnotatedIsFaithful }
+{}

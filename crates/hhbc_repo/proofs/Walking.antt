@@ -1,0 +1,439 @@
+-- A repository of the first form keeps to its shapes exactly where no code reaches below the stack.
+use Rattle.std.proofs.Common.{◌≡◌, ◌≢◌, ◌↔◌, ℕ, zero, suc, ◌+◌, ◌-◌, ◌*◌, ◌<◌, ◌≤◌, max, refl, sym, ◌∙◌, ap, subst, Bool, true, false, not, ◌&&◌, ◌==◌, nat_le, nat_lt, Option, Some, None, List, [], ◌∷◌, ◌++◌, map, flat_map, slice_get, length, drop, cond, arith, length-append, length-drop, mul-le-mul, le-leb, ltb-true, ltb-false}
+use Rattle.std.proofs.lemmas.Bool.Decides.{Decides-eqb}
+use Rattle.hhbc_ops.specs.declared.op.Op.{Op}
+use Rattle.hhbc_ops.specs.declared.op.Op.TheVariants as ops
+use Rattle.hhbc_repo.specs.declared.code.Code.{Code}
+use Rattle.hhbc_repo.specs.declared.code.Code.TheVariants as kinds
+use Rattle.hhbc_repo.specs.declared.code.Imm.{Imm}
+use Rattle.hhbc_repo.specs.declared.code.Imm.TheVariants as imms
+use Rattle.hhbc_repo.specs.declared.body.Body.{Body}
+use Rattle.hhbc_repo.specs.declared.body.Position.{Position}
+use Rattle.hhbc_repo.specs.Linked.{Linked}
+use Rattle.hhbc_repo.specs.Bodies.{code_at, asserts_at}
+use Rattle.hhbc_repo.specs.Codes.{Flavour, C, U, labels_in, labels, op_pops, op_pushes, pops, pushes, throws, goes_on, op_goes_on}
+use Rattle.hhbc_repo.specs.Edges.{Edge, Next, To, Handler, handler_of, handler_edges, next_edges, edges_of, edges, target}
+use Rattle.hhbc_repo.specs.Form.{FitsOperands, FitsCode, FitsPosition, FitPositions, IsReturn, IsFirstBody, IsFirstForm}
+use Rattle.hhbc_repo.specs.Shapes.{Shape, Check, ShapeKind, Underflow, WrongFlavour, TooManyCells, given, given_after, given_by, shapes, handed, edge_to, after, behind, empty_shape, agree, same_flavour, same_flag, same_live, stack_checks, edge_checks, all_edge_checks, last_checks, checks, first_fault, fault_at, deepest, cells, reaches, pops_of, or_unled, Types}
+use Rattle.hhbc_repo.specs.Walks.{walks, TypesWhereItWalks}
+use Rattle.hhbc_repo.proofs.FirstForm.{only, first_is}
+
+is_false : (t : Bool) → (t ≡ true → ⊥) → t ≡ false
+is_false true h = absurd (h refl)
+is_false false h = refl
+
+-- codes of the first form name no label
+op_labels : (count : ℕ) (op : Op) (is : List Imm) → FitsOperands count op is → flat_map labels_in is ≡ []
+op_labels count ops.Null [] h = refl
+op_labels count ops.Null (x ∷ xs) h = absurd h
+op_labels count ops.True [] h = refl
+op_labels count ops.True (x ∷ xs) h = absurd h
+op_labels count ops.False [] h = refl
+op_labels count ops.False (x ∷ xs) h = absurd h
+op_labels count ops.Int (imms.Int i ∷ []) h = refl
+op_labels count ops.Int _ h = absurd h
+op_labels count ops.PopC [] h = refl
+op_labels count ops.PopC (x ∷ xs) h = absurd h
+op_labels count ops.SetL (imms.Local l ∷ []) h = refl
+op_labels count ops.SetL _ h = absurd h
+op_labels count ops.CGetL (imms.Local l ∷ []) h = refl
+op_labels count ops.CGetL _ h = absurd h
+op_labels count ops.RetC [] h = refl
+op_labels count ops.RetC (x ∷ xs) h = absurd h
+
+no_labels : (count : ℕ) (c : Code) → FitsCode count c → labels c ≡ []
+no_labels count (kinds.Plain i) h = op_labels count i.op i.imms h
+no_labels count (kinds.Member m) h = absurd h
+
+no_handler : (t : Bool) (b : Body) (p : ℕ) → b.regions ≡ [] → handler_edges t (handler_of b p) ≡ []
+no_handler true b p e = rw e refl
+no_handler false b p e = refl
+
+append_none : {A : Type 0} (xs : List A) → xs ++ [] ≡ xs
+append_none [] = refl
+append_none (x ∷ xs) = ap (λ ys. x ∷ ys) (append_none xs)
+
+pub code_is : (b : Body) (p : ℕ) (q : Position) → slice_get b.positions p ≡ Some q → code_at b p ≡ Some q.code
+code_is b p q e = rw e refl
+
+edges_are : (count : ℕ) (b : Body) (p : ℕ) (o : Option Code) (c : Code) → b.regions ≡ [] → o ≡ Some c → FitsCode count c
+    → edges_of o b p ≡ next_edges (goes_on c) p
+edges_are count b p None c g e h = absurd (cc)
+edges_are count b p (Some d) c g e h =
+    let k : c ≡ d = cc in
+    subst (λ (c : Code). edges_of (Some d) b p ≡ next_edges (goes_on c) p) (sym k)
+    (rw (no_labels count d (subst (λ (c : Code). FitsCode count c) k h), no_handler (throws d) b p g) (append_none (next_edges (goes_on d) p ++ []) ∙ append_none (next_edges (goes_on d) p)))
+
+-- the positions of the first form
+pub fits_at : (count : ℕ) (ps : List Position) (p : ℕ) (q : Position) → FitPositions count ps → slice_get ps p ≡ Some q → FitsPosition count q
+fits_at count [] p q w e = absurd w
+fits_at count (x ∷ []) zero q w e = let k : x ≡ q = cc in subst (λ (y : Position). FitsPosition count y) k w.0
+fits_at count (x ∷ []) (suc p) q w e = absurd (cc)
+fits_at count (x ∷ y ∷ ps) zero q w e = let k : x ≡ q = cc in subst (λ (y : Position). FitsPosition count y) k w.0
+fits_at count (x ∷ y ∷ ps) (suc p) q w e = fits_at count (y ∷ ps) p q w.2 e
+
+not_last : (count : ℕ) (ps : List Position) (p : ℕ) (q : Position) → FitPositions count ps → slice_get ps p ≡ Some q → suc p < length ps → IsReturn q.code → ⊥
+not_last count [] p q w e l = absurd w
+not_last count (x ∷ []) p q w e l = absurd (omega arith)
+not_last count (x ∷ y ∷ ps) zero q w e l = let k : x ≡ q = cc in subst (λ (y : Position). IsReturn y.code → ⊥) k w.1
+not_last count (x ∷ y ∷ ps) (suc p) q w e l = not_last count (y ∷ ps) p q w.2 e (omega arith)
+
+is_last : (count : ℕ) (ps : List Position) (p : ℕ) (q : Position) → FitPositions count ps → slice_get ps p ≡ Some q → suc p ≡ length ps → IsReturn q.code
+is_last count [] p q w e l = absurd w
+is_last count (x ∷ []) zero q w e l = let k : x ≡ q = cc in subst (λ (y : Position). IsReturn y.code) k w.1
+is_last count (x ∷ []) (suc p) q w e l = absurd (cc)
+is_last count (x ∷ y ∷ ps) zero q w e l = absurd (omega arith)
+is_last count (x ∷ y ∷ ps) (suc p) q w e l = is_last count (y ∷ ps) p q w.2 e (omega arith)
+
+pub there : (ps : List Position) (p : ℕ) → p < length ps → (q : Position) × (slice_get ps p ≡ Some q)
+there [] p l = absurd (omega arith)
+there (x ∷ ps) zero l = (x, refl)
+there (x ∷ ps) (suc p) l = there ps p (omega arith)
+
+op_on : (op : Op) → (op ≡ ops.RetC → ⊥) → op_goes_on op ≡ true
+op_on ops.Null h = refl
+op_on ops.True h = refl
+op_on ops.False h = refl
+op_on ops.Int h = refl
+op_on ops.PopC h = refl
+op_on ops.SetL h = refl
+op_on ops.CGetL h = refl
+op_on ops.RetC h = absurd (h refl)
+
+on : (c : Code) → (IsReturn c → ⊥) → goes_on c ≡ true
+on (kinds.Plain i) h = op_on i.op h
+on (kinds.Member m) h = refl
+
+not_on : (c : Code) → IsReturn c → goes_on c ≡ false
+not_on (kinds.Plain i) h = rw h refl
+not_on (kinds.Member m) h = absurd h
+
+-- a list of shapes whose last alone leads to a position
+given_by_last : (b : Body) (k : ℕ) (xs : List Shape) (y : Shape) (q n : ℕ) (e : Edge) → n ≡ k + length xs
+    → ((j : ℕ) → j < length xs → edge_to q (edges b (k + j)) ≡ None) → edge_to q (edges b n) ≡ Some e
+    → given_by b k (xs ++ y ∷ []) q ≡ Some (after b n y e)
+given_by_last b k [] y q n e i none f =
+    let h : n ≡ k = omega arith in
+    let g : edge_to q (edges b k) ≡ Some e = subst (λ m. edge_to q (edges b m) ≡ Some e) h f in
+    subst (λ m. given_by b k (y ∷ []) q ≡ Some (after b m y e)) (sym h) (rw g refl)
+given_by_last b k (x ∷ xs) y q n e i none f =
+    let z : k + 0 ≡ k = omega arith in
+    let g : edge_to q (edges b k) ≡ None = subst (λ m. edge_to q (edges b m) ≡ None) z (none 0 (omega arith)) in
+    rw g
+    (given_by_last b (suc k) xs y q n e (omega arith)
+    (λ j l. let m : k + suc j ≡ suc k + j = omega arith in subst (λ m. edge_to q (edges b m) ≡ None) m (none (suc j) (omega arith))) f)
+
+pub shapes_length : (b : Body) (n : ℕ) → length (shapes b n) ≡ n
+shapes_length b zero = refl
+shapes_length b (suc n) =
+    let e = length-append (shapes b n) (given_after b n (shapes b n) ∷ []) in
+    let f = shapes_length b n in
+    omega (arith, e, f)
+
+edge_elsewhere : (t : Bool) (j q : ℕ) → j < q → edge_to (suc q) (next_edges t j) ≡ None
+edge_elsewhere true j q l = rw (is_false (suc j == suc q) (λ e. let f = (Decides-eqb (suc j) (suc q)).0 e in absurd (omega arith))) refl
+edge_elsewhere false j q l = refl
+
+edge_here : (q : ℕ) → edge_to (suc q) (next_edges true q) ≡ Some (Next (suc q))
+edge_here q = rw ((Decides-eqb (suc q) (suc q)).1 refl) refl
+
+module _ (count : ℕ) (b : Body) (g : b.regions ≡ []) (w : FitPositions count b.positions) where
+  edges_at : (p : ℕ) (q : Position) → slice_get b.positions p ≡ Some q → edges b p ≡ next_edges (goes_on q.code) p
+  edges_at p q e = edges_are count b p (code_at b p) q.code g (code_is b p q e) (fits_at count b.positions p q w e).fits
+
+  -- a position has the shape that the one before it leaves
+  pub given_next : (p : ℕ) (q : Position) → slice_get b.positions p ≡ Some q → suc p < length b.positions → given b (suc p) ≡ behind q.code (given b p)
+  given_next p q e l =
+      let h = edges_at p q e in
+      let o = on q.code (not_last count b.positions p q w e l) in
+      let k : edge_to (suc p) (edges b p) ≡ Some (Next (suc p)) = rw (h, o) (edge_here p) in
+      let len = shapes_length b p in
+      let m = given_by_last b 0 (shapes b p) (given b p) (suc p) p (Next (suc p)) (omega (arith, len))
+      (λ j i.
+      let x = there b.positions j (omega (arith, len)) in
+      let z : 0 + j ≡ j = omega arith in
+      subst (λ n. edge_to (suc p) (edges b n) ≡ None) (sym z)
+      (rw (edges_at j x.0 x.1) (edge_elsewhere (goes_on x.0.code) j p (omega (arith, len))))) k in
+      rw (m, code_is b p q e) refl
+
+-- all flavours of the first form are cells
+abbrev AllCells : List Flavour → Type 0
+AllCells [] = Unit {0}
+AllCells (C ∷ fs) = AllCells fs
+AllCells (U ∷ fs) = ⊥
+
+cells_drop : (n : ℕ) (fs : List Flavour) → AllCells fs → AllCells (drop n fs)
+cells_drop zero fs h = h
+cells_drop (suc n) [] h = tt
+cells_drop (suc n) (C ∷ fs) h = cells_drop n fs h
+cells_drop (suc n) (U ∷ fs) h = absurd h
+
+cells_append : (fs gs : List Flavour) → AllCells fs → AllCells gs → AllCells (fs ++ gs)
+cells_append [] gs h k = k
+cells_append (C ∷ fs) gs h k = cells_append fs gs h k
+cells_append (U ∷ fs) gs h k = absurd h
+
+op_pushes_cells : (op : Op) (is : List Imm) → AllCells (op_pushes op is) × (length (op_pushes op is) ≤ 1)
+op_pushes_cells ops.Null is = (tt, omega arith)
+op_pushes_cells ops.True is = (tt, omega arith)
+op_pushes_cells ops.False is = (tt, omega arith)
+op_pushes_cells ops.Int is = (tt, omega arith)
+op_pushes_cells ops.PopC is = (tt, omega arith)
+op_pushes_cells ops.SetL is = (tt, omega arith)
+op_pushes_cells ops.CGetL is = (tt, omega arith)
+op_pushes_cells ops.RetC is = (tt, omega arith)
+
+pushes_cells : (c : Code) → AllCells (pushes c) × (length (pushes c) ≤ 1)
+pushes_cells (kinds.Plain i) = op_pushes_cells i.op i.imms
+pushes_cells (kinds.Member m) = (tt, omega arith)
+
+op_pops_cells : (op : Op) (is : List Imm) → AllCells (op_pops op is)
+op_pops_cells ops.Null is = tt
+op_pops_cells ops.True is = tt
+op_pops_cells ops.False is = tt
+op_pops_cells ops.Int is = tt
+op_pops_cells ops.PopC is = tt
+op_pops_cells ops.SetL is = tt
+op_pops_cells ops.CGetL is = tt
+op_pops_cells ops.RetC is = tt
+
+pops_cells : (c : Code) → AllCells (pops c)
+pops_cells (kinds.Plain i) = op_pops_cells i.op i.imms
+pops_cells (kinds.Member m) = tt
+
+agree_cells : (fs gs : List Flavour) → AllCells fs → AllCells gs → agree fs gs ≡ true
+agree_cells [] gs h k = refl
+agree_cells (C ∷ fs) [] h k = refl
+agree_cells (C ∷ fs) (C ∷ gs) h k = agree_cells fs gs h k
+agree_cells (C ∷ fs) (U ∷ gs) h k = absurd k
+agree_cells (U ∷ fs) gs h k = absurd h
+
+agree_itself : (fs : List Flavour) → agree fs fs ≡ true
+agree_itself [] = refl
+agree_itself (C ∷ fs) = agree_itself fs
+agree_itself (U ∷ fs) = agree_itself fs
+
+same_itself : (bs : List Bool) → same_live bs bs ≡ true
+same_itself [] = refl
+same_itself (true ∷ bs) = same_itself bs
+same_itself (false ∷ bs) = same_itself bs
+
+-- the shape of a position: cells alone, and no more than the positions before it
+record IsLow (p : ℕ) (s : Shape) : Type 0 where
+  pub cells : AllCells s.stack
+  pub depth : length s.stack ≤ p
+
+low_behind : (c : Code) (p : ℕ) (s : Shape) → IsLow p s → IsLow (suc p) (behind c s)
+low_behind c p s h =
+    let x = pushes_cells c in
+    let a = length-append (pushes c) (drop (length (pops c)) s.stack) in
+    let d = length-drop (length (pops c)) s.stack in
+    record {
+      cells = cells_append (pushes c) _ x.0 (cells_drop (length (pops c)) s.stack h.cells);
+      depth = omega (arith, a, d, x.1, h.depth);
+    }
+
+-- checks that all pass have no fault
+abbrev AllPass : List Check → Type 0
+AllPass [] = Unit {0}
+AllPass (c ∷ cs) = (c.1 ≡ true) × AllPass cs
+
+pass_append : (xs ys : List Check) → AllPass xs → AllPass ys → AllPass (xs ++ ys)
+pass_append [] ys h k = k
+pass_append (x ∷ xs) ys h k = (h.0, pass_append xs ys h.1 k)
+
+no_fault : (xs : List Check) → AllPass xs → first_fault xs ≡ None
+no_fault [] h = refl
+no_fault (x ∷ xs) h = rw h.0 (no_fault xs h.1)
+
+first_decides : (t : Bool) (kind : ShapeKind) (xs : List Check) → AllPass xs → (t ≡ true) ↔ (first_fault ((kind, t) ∷ xs) ≡ None)
+first_decides true kind xs h = ((λ e. no_fault xs h), λ e. refl)
+first_decides false kind xs h = ((λ e. absurd (cc)), λ e. absurd (cc))
+
+deepest_last : (xs : List Shape) (y : Shape) (m : ℕ) → deepest xs ≤ m → length y.stack ≤ m → deepest (xs ++ y ∷ []) ≤ m
+deepest_last [] y m h k = omega arith
+deepest_last (x ∷ xs) y m h k =
+    let ih = deepest_last xs y m (omega arith) k in
+    omega (arith, ih, h)
+
+pub asserts_none : (b : Body) (p : ℕ) (q : Position) → slice_get b.positions p ≡ Some q → q.asserts ≡ [] → asserts_at b p ≡ []
+asserts_none b p q e f = rw (e, f) refl
+
+few_cells : (n l d i : ℕ) → n ≤ 200 → l ≤ 255 → d ≤ 200 → i ≡ 0 → n * (l + d + i) ≤ 1000000
+few_cells n l d i h k m z =
+    let x : l + d + i ≤ 455 = omega arith in
+    let y : n * (l + d + i) ≤ 200 * 455 = mul-le-mul h x in
+    omega (arith, y)
+
+module _ (b : Body) (form : IsFirstBody b) where
+  low : (p : ℕ) → p < length b.positions → IsLow p (given b p)
+  low zero l = record { cells = tt; depth = omega arith }
+  low (suc p) l =
+      let x = there b.positions p (omega arith) in
+      subst (λ (s : Shape). IsLow (suc p) s) (sym (given_next _ b form.regions form.positions p x.0 x.1 l)) (low_behind x.0.code p (given b p) (low p (omega arith)))
+
+  all_low : (n : ℕ) → n ≤ length b.positions → deepest (shapes b n) ≤ n
+  all_low zero l = omega arith
+  all_low (suc n) l =
+      let ih = all_low n (omega arith) in
+      let x = (low n (omega arith)).depth in
+      deepest_last (shapes b n) (given b n) (suc n) (omega (arith, ih)) (omega (arith, x))
+
+  next_pass : (p : ℕ) (s : Shape) → suc p < length b.positions → given b (suc p) ≡ s → length s.stack ≤ 255 → AllPass (edge_checks b s (suc p))
+  next_pass p s l e d =
+      rw e
+      (le-leb _ _ l, (le-leb _ _ d, ((Decides-eqb (length s.stack) (length s.stack)).1 refl, (agree_itself s.stack, (same_itself s.live, tt)))))
+
+  few : cells b ≤ 1000000
+  few =
+      let d = all_low (length b.positions) (omega arith) in
+      few_cells (length b.positions) (length b.locals) (deepest (shapes b (length b.positions))) b.iters form.few form.locals
+      (omega (arith, d, form.few)) form.iters
+
+  last_pass : (t : Bool) → AllPass (cond t ((TooManyCells, nat_le (cells b) 1000000) ∷ []) [])
+  last_pass true = (le-leb _ _ few, tt)
+  last_pass false = tt
+
+  on_edges : (p : ℕ) (q : Position) → slice_get b.positions p ≡ Some q → (t : Bool) → (t ≡ true → suc p < length b.positions)
+      → AllPass (all_edge_checks b p (given b p) (next_edges t p))
+  on_edges p q e true l =
+      let h = given_next _ b form.regions form.positions p q e (l refl) in
+      let k = low (suc p) (l refl) in
+      let a : after b p (given b p) (Next (suc p)) ≡ behind q.code (given b p) = rw (code_is b p q e) refl in
+      let d : length (behind q.code (given b p)).stack ≤ 255 =
+      subst (λ (s : Shape). length s.stack ≤ 255) h (omega (arith, k.depth, l refl, form.few)) in
+      rw a (pass_append (edge_checks b (behind q.code (given b p)) (suc p)) [] (next_pass p (behind q.code (given b p)) (l refl) h d) tt)
+  on_edges p q e false l = tt
+
+  pub goes_within : (p : ℕ) (q : Position) → slice_get b.positions p ≡ Some q → p < length b.positions → goes_on q.code ≡ true → suc p < length b.positions
+  goes_within p q e l o = within (nat_lt (suc p) (length b.positions)) refl
+    where
+      within : (t : Bool) → nat_lt (suc p) (length b.positions) ≡ t → suc p < length b.positions
+      within true h = ltb-true (suc p) (length b.positions) h
+      within false h =
+          let m : length b.positions ≤ suc p = ltb-false (suc p) (length b.positions) h in
+          let k : suc p ≡ length b.positions = omega (arith, m, l) in
+          let n = not_on q.code (is_last _ b.positions p q form.positions e k) in
+          absurd (cc)
+
+  rest_pass : (p : ℕ) (q : Position) → slice_get b.positions p ≡ Some q → p < length b.positions
+      → AllPass ((WrongFlavour, agree (pops_of (code_at b p)) (given b p).stack) ∷ (all_edge_checks b p (given b p) (edges b p) ++ last_checks b p))
+  rest_pass p q e l =
+      let a : agree (pops_of (code_at b p)) (given b p).stack ≡ true =
+      rw (code_is b p q e) (agree_cells (pops q.code) (given b p).stack (pops_cells q.code) (low p l).cells) in (
+        a,
+        pass_append (all_edge_checks b p (given b p) (edges b p)) (last_checks b p)
+            (subst (λ (es : List Edge). AllPass (all_edge_checks b p (given b p) es)) (sym (edges_at _ b form.regions form.positions p q e))
+            (on_edges p q e (goes_on q.code) (goes_within p q e l)))
+            (last_pass (suc p == length b.positions)),
+      )
+
+  -- a position passes where it finds what it takes
+  pub decides : (p : ℕ) (q : Position) → slice_get b.positions p ≡ Some q → p < length b.positions
+      → (nat_le (length (pops q.code)) (length (given b p).stack) ≡ true) ↔ (fault_at b p ≡ None)
+  decides p q e l =
+      let f = fits_at _ b.positions p q form.positions e in
+      let h : (reaches (asserts_at b p) (length (given b p).stack) && nat_le (length (pops_of (code_at b p))) (length (given b p).stack))
+      ≡ nat_le (length (pops q.code)) (length (given b p).stack) = rw (asserts_none b p q e f.bare, code_is b p q e) refl in
+      subst (λ t. (t ≡ true) ↔ (fault_at b p ≡ None)) h
+      (first_decides _ Underflow
+      ((WrongFlavour, agree (pops_of (code_at b p)) (given b p).stack) ∷ (all_edge_checks b p (given b p) (edges b p) ++ last_checks b p))
+      (rest_pass p q e l))
+
+  -- the stack behind a code
+  pub stack_behind : (c : Code) (s : Shape) → length (behind c s).stack ≡ length (pushes c) + (length s.stack - length (pops c))
+  stack_behind c s =
+      let a = length-append (pushes c) (drop (length (pops c)) s.stack) in
+      let d = length-drop (length (pops c)) s.stack in
+      omega (arith, a, d)
+
+  -- the positions from one on
+  record From (p : ℕ) (ps : List Position) : Type 0 where
+    pub same : (i : ℕ) → slice_get b.positions (p + i) ≡ slice_get ps i
+    pub count : length b.positions ≡ p + length ps
+
+  first_of : (p : ℕ) (x : Position) (ps : List Position) → From p (x ∷ ps) → slice_get b.positions p ≡ Some x
+  first_of p x ps h = let e : p + 0 ≡ p = omega arith in subst (λ n. slice_get b.positions n ≡ Some x) e (h.same 0)
+
+  tail_of : (p : ℕ) (x : Position) (ps : List Position) → From p (x ∷ ps) → From (suc p) ps
+  tail_of p x ps h = record {
+    same = λ i. let e : p + suc i ≡ suc p + i = omega arith in subst (λ n. slice_get b.positions n ≡ slice_get ps i) e (h.same (suc i));
+    count = let c = h.count in omega (arith, c);
+  }
+
+  depth_next : (p : ℕ) (x y : Position) (ps : List Position) → From p (x ∷ y ∷ ps)
+      → length (given b (suc p)).stack ≡ length (pushes x.code) + (length (given b p).stack - length (pops x.code))
+  depth_next p x y ps h =
+      let c = h.count in
+      let e = first_of p x (y ∷ ps) h in
+      let g = given_next _ b form.regions form.positions p x e (omega (arith, c)) in
+      subst (λ (s : Shape). length s.stack ≡ length (pushes x.code) + (length (given b p).stack - length (pops x.code))) (sym g)
+      (stack_behind x.code (given b p))
+
+  both : (a c : Bool) → (a && c) ≡ true → (a ≡ true) × (c ≡ true)
+  both true c h = (refl, h)
+  both false c h = absurd (cc)
+
+  join : (a c : Bool) → a ≡ true → c ≡ true → (a && c) ≡ true
+  join a c h k = rw (h, k) refl
+
+  from_walks : (p : ℕ) (ps : List Position) → From p ps → walks (length (given b p).stack) ps ≡ true
+      → (i : ℕ) → i < length ps → fault_at b (p + i) ≡ None
+  from_walks p [] h w i l = absurd (omega arith)
+  from_walks p (x ∷ ps) h w zero l =
+      let c = h.count in
+      let e : p + 0 ≡ p = omega arith in
+      subst (λ n. fault_at b n ≡ None) (sym e) ((decides p x (first_of p x ps h) (omega (arith, c))).0 (both _ _ w).0)
+  from_walks p (x ∷ []) h w (suc i) l = absurd (omega arith)
+  from_walks p (x ∷ y ∷ ps) h w (suc i) l =
+      let e : suc p + i ≡ p + suc i = omega arith in
+      let k = subst (λ d. walks d (y ∷ ps) ≡ true) (sym (depth_next p x y ps h)) (both _ _ w).1 in
+      subst (λ n. fault_at b n ≡ None) e (from_walks (suc p) (y ∷ ps) (tail_of p x (y ∷ ps) h) k i (omega arith))
+
+  found : (p : ℕ) (x : Position) (ps : List Position) → From p (x ∷ ps) → ((i : ℕ) → i < length (x ∷ ps) → fault_at b (p + i) ≡ None)
+      → nat_le (length (pops x.code)) (length (given b p).stack) ≡ true
+  found p x ps h w =
+      let c = h.count in
+      let e : p + 0 ≡ p = omega arith in
+      (decides p x (first_of p x ps h) (omega (arith, c))).1 (subst (λ n. fault_at b n ≡ None) e (w 0 (omega arith)))
+
+  to_walks : (p : ℕ) (ps : List Position) → From p ps → ((i : ℕ) → i < length ps → fault_at b (p + i) ≡ None)
+      → walks (length (given b p).stack) ps ≡ true
+  to_walks p [] h w = refl
+  to_walks p (x ∷ []) h w = join _ _ (found p x [] h w) refl
+  to_walks p (x ∷ y ∷ ps) h w =
+      let t = to_walks (suc p) (y ∷ ps) (tail_of p x (y ∷ ps) h)
+      (λ i l. let e : p + suc i ≡ suc p + i = omega arith in subst (λ n. fault_at b n ≡ None) e (w (suc i) (omega arith))) in
+      join _ _ (found p x (y ∷ ps) h w) (subst (λ d. walks d (y ∷ ps) ≡ true) (depth_next p x y ps h) t)
+
+  whole : From 0 b.positions
+  whole = record {
+    same = λ i. let e : 0 + i ≡ i = omega arith in ap (λ n. slice_get b.positions n) e;
+    count = omega arith;
+  }
+
+  some_positions : (ps : List Position) (count : ℕ) → FitPositions count ps → ps ≢ []
+  some_positions [] count h = absurd h
+  some_positions (x ∷ ps) count h = λ e. cc
+
+  is_it : (n : ℕ) (c : Body) → slice_get (b ∷ []) n ≡ Some c → b ≡ c
+  is_it zero c e = cc
+  is_it (suc n) c e = absurd (cc)
+
+  types : walks 0 b.positions ≡ true → Types (only b)
+  types w = record {
+    has_positions = λ n c e. let k = is_it n c e in subst (λ (c : Body). c.positions ≢ []) k (some_positions b.positions _ form.positions);
+    passes = λ n c e p l.
+        let k = is_it n c e in
+        let m : p < length b.positions = subst (λ (c : Body). p < length c.positions) (sym k) l in
+        let z : 0 + p ≡ p = omega arith in
+        subst (λ (c : Body). fault_at c p ≡ None) k (subst (λ n. fault_at b n ≡ None) z (from_walks 0 b.positions whole w p m));
+  }
+
+  typed : Types (only b) → walks 0 b.positions ≡ true
+  typed t = to_walks 0 b.positions whole (λ i l. let z : i ≡ 0 + i = omega arith in subst (λ n. fault_at b n ≡ None) z (t.passes 0 b refl i l))
+
+pub types_where_it_walks : TypesWhereItWalks
+types_where_it_walks r form =
+    subst (λ (r : Linked). (walks 0 form.body.positions ≡ true) ↔ Types r) (sym (first_is r form))
+    (types form.body form.first, typed form.body form.first)

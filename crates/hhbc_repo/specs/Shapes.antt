@@ -1,0 +1,174 @@
+-- What the stack looks like at each position, and which repositories keep to it.
+use Rattle.std.specs.Prelude.{◌≡◌, ◌≢◌, ◌<◌, ◌*◌, ◌+◌, ◌-◌, ℕ, zero, suc, max, Bool, true, false, ◌&&◌, not, nat_le, nat_lt, nat_eq, ◌==◌, List, [], ◌∷◌, ◌++◌, map, fold, length, take, drop, replicate, Option, Some, None, slice_get, if◌then◌else◌, Contains}
+use Rattle.hhbc_repo.specs.declared.code.Code.{Code}
+use Rattle.hhbc_repo.specs.declared.body.Assert.{Assert}
+use Rattle.hhbc_repo.specs.declared.body.Assert.TheVariants as asserts
+use Rattle.hhbc_repo.specs.declared.body.Body.{Body}
+use Rattle.hhbc_repo.specs.declared.body.Region.{Region}
+use Rattle.hhbc_repo.specs.Linked.{Linked}
+use Rattle.hhbc_repo.specs.Bodies.{body_at, bodies, code_at, asserts_at}
+use Rattle.hhbc_repo.specs.Codes.{Flavour, C, U, pops, pushes}
+use Rattle.hhbc_repo.specs.Edges.{Edge, Next, To, Handler, target, edges}
+
+-- the flavours of the stack, the topmost first, and of each iterator whether it is live
+pub record Shape : Type 0 where
+  pub stack : List Flavour
+  pub live : List Bool
+
+abbrev pub empty_shape : Body → Shape
+empty_shape b = record { stack = []; live = replicate b.iters false }
+
+abbrev pub caught_shape : Shape → Shape
+caught_shape s = record s { stack = C ∷ [] }
+
+-- the shape behind a code
+abbrev pub behind : Code → Shape → Shape
+behind c s = record s { stack = pushes c ++ drop (length (pops c)) s.stack }
+
+abbrev pub hands_on : Option Code → Shape → Edge → Shape
+hands_on None s e = s
+hands_on (Some c) s (Next q) = behind c s
+hands_on (Some c) s (To q) = behind c s
+hands_on (Some c) s (Handler q) = caught_shape s
+
+-- what a position with this shape hands on along an edge
+abbrev pub after : Body → ℕ → Shape → Edge → Shape
+after b p s e = hands_on (code_at b p) s e
+
+-- the first edge to the position
+abbrev pub edge_to : ℕ → List Edge → Option Edge
+edge_to q [] = None
+edge_to q (e ∷ es) = if target e == q then Some e else edge_to q es
+
+abbrev pub handed : Body → ℕ → Shape → Option Edge → Option Shape → Option Shape
+handed b p s None other = other
+handed b p s (Some e) other = Some (after b p s e)
+
+-- what the first of the positions from p on that has an edge to q hands to it, from their shapes
+abbrev pub given_by : Body → ℕ → List Shape → ℕ → Option Shape
+given_by b p [] q = None
+given_by b p (s ∷ ss) q = handed b p s (edge_to q (edges b p)) (given_by b (suc p) ss q)
+
+abbrev pub is_catch : List Region → ℕ → Bool
+is_catch [] q = false
+is_catch (g ∷ gs) q = if g.mid == q then true else is_catch gs q
+
+-- a position that no earlier one leads to
+abbrev pub unled : Body → ℕ → Shape
+unled b q = if is_catch b.regions q then caught_shape (empty_shape b) else empty_shape b
+
+abbrev pub or_unled : Body → ℕ → Option Shape → Shape
+or_unled b q None = unled b q
+or_unled b q (Some s) = s
+
+-- the layout rule: position 0 has the empty shape, a later one what the least earlier position that leads to it hands to it
+abbrev pub given_after : Body → ℕ → List Shape → Shape
+given_after b zero earlier = empty_shape b
+given_after b (suc q) earlier = or_unled b (suc q) (given_by b 0 earlier (suc q))
+
+-- the shapes of the first n positions
+abbrev pub shapes : Body → ℕ → List Shape
+shapes b zero = []
+shapes b (suc n) = shapes b n ++ given_after b n (shapes b n) ∷ []
+
+-- the shape that a position has
+abbrev pub given : Body → ℕ → Shape
+given b q = given_after b q (shapes b q)
+
+pub data ShapeKind : Type 0 where
+  Underflow : ShapeKind
+  WrongFlavour : ShapeKind
+  DepthMismatch : ShapeKind
+  IteratorDead : ShapeKind
+  IteratorLive : ShapeKind
+  IteratorMismatch : ShapeKind
+  FallsOff : ShapeKind
+  StackTooDeep : ShapeKind
+  TooManyCells : ShapeKind
+
+-- a check by what it finds and whether it passes
+abbrev pub Check : Type 0
+Check = ShapeKind × Bool
+
+abbrev pub same_flavour : Flavour → Flavour → Bool
+same_flavour C C = true
+same_flavour C U = false
+same_flavour U C = false
+same_flavour U U = true
+
+-- the flavours agree as far as both lists go
+abbrev pub agree : List Flavour → List Flavour → Bool
+agree [] ys = true
+agree (x ∷ xs) [] = true
+agree (x ∷ xs) (y ∷ ys) = same_flavour x y && agree xs ys
+
+abbrev pub same_flag : Bool → Bool → Bool
+same_flag true b = b
+same_flag false b = not b
+
+abbrev pub same_live : List Bool → List Bool → Bool
+same_live [] [] = true
+same_live [] (b ∷ bs) = false
+same_live (a ∷ xs) [] = false
+same_live (a ∷ xs) (b ∷ bs) = same_flag a b && same_live xs bs
+
+-- the slots that an assertion needs
+abbrev pub assert_reach : Assert → ℕ
+assert_reach (asserts.Local l t) = 0
+assert_reach (asserts.Stack i t) = suc i
+
+abbrev pub reaches : List Assert → ℕ → Bool
+reaches [] depth = true
+reaches (a ∷ more) depth = nat_le (assert_reach a) depth && reaches more depth
+
+abbrev pub pops_of : Option Code → List Flavour
+pops_of None = []
+pops_of (Some c) = pops c
+
+abbrev pub stack_checks : Body → ℕ → Shape → List Check
+stack_checks b p s =
+    (Underflow, reaches (asserts_at b p) (length s.stack) && nat_le (length (pops_of (code_at b p))) (length s.stack))
+    ∷ (WrongFlavour, agree (pops_of (code_at b p)) s.stack)
+    ∷ []
+
+-- an edge, what is handed on along it, and the shape of its target; the edge that gives the target its shape agrees with it
+abbrev pub edge_checks : Body → Shape → ℕ → List Check
+edge_checks b s q =
+    (FallsOff, nat_lt q (length b.positions))
+    ∷ (StackTooDeep, nat_le (length s.stack) 255)
+    ∷ (DepthMismatch, length s.stack == length (given b q).stack)
+    ∷ (WrongFlavour, agree s.stack (given b q).stack)
+    ∷ (IteratorMismatch, same_live s.live (given b q).live)
+    ∷ []
+
+abbrev pub all_edge_checks : Body → ℕ → Shape → List Edge → List Check
+all_edge_checks b p s [] = []
+all_edge_checks b p s (e ∷ es) = edge_checks b (after b p s e) (target e) ++ all_edge_checks b p s es
+
+-- the depth of the deepest of these
+abbrev pub deepest : List Shape → ℕ
+deepest [] = 0
+deepest (s ∷ ss) = max (length s.stack) (deepest ss)
+
+abbrev pub cells : Body → ℕ
+cells b = length b.positions * (length b.locals + deepest (shapes b (length b.positions)) + b.iters)
+
+abbrev pub last_checks : Body → ℕ → List Check
+last_checks b p = if suc p == length b.positions then (TooManyCells, nat_le (cells b) 1000000) ∷ [] else []
+
+-- the checks of a position, in order; those of iterators come with the first code that has one
+abbrev pub checks : Body → ℕ → List Check
+checks b p = stack_checks b p (given b p) ++ all_edge_checks b p (given b p) (edges b p) ++ last_checks b p
+
+-- the first check that fails
+abbrev pub first_fault : List Check → Option ShapeKind
+first_fault [] = None
+first_fault (c ∷ cs) = if c.1 then first_fault cs else Some c.0
+
+abbrev pub fault_at : Body → ℕ → Option ShapeKind
+fault_at b p = first_fault (checks b p)
+
+-- each body has a position, and no check fails at any
+pub record Types (r : Linked) : Type 0 where
+  pub has_positions : (n : ℕ) (b : Body) → body_at r n ≡ Some b → b.positions ≢ []
+  pub passes : (n : ℕ) (b : Body) → body_at r n ≡ Some b → (p : ℕ) → p < length b.positions → fault_at b p ≡ None

@@ -1,0 +1,16 @@
+-- Straight-line codes that find on the stack what they take away.
+use Rattle.std.specs.Prelude.{◌≡◌, ◌↔◌, ◌+◌, ◌-◌, ℕ, Bool, true, ◌&&◌, nat_le, List, [], ◌∷◌, length}
+use Rattle.hhbc_repo.specs.declared.body.Position.{Position}
+use Rattle.hhbc_repo.specs.Codes.{pops, pushes}
+use Rattle.hhbc_repo.specs.Form.{IsFirstForm}
+use Rattle.hhbc_repo.specs.Linked.{Linked}
+use Rattle.hhbc_repo.specs.Shapes.{Types}
+
+-- each of the codes, from so many slots on the stack on, finds as many as it takes away
+abbrev pub walks : ℕ → List Position → Bool
+walks depth [] = true
+walks depth (p ∷ ps) = nat_le (length (pops p.code)) depth && walks (length (pushes p.code) + (depth - length (pops p.code))) ps
+
+-- a repository of the first form keeps to its shapes exactly where its codes do
+abbrev pub TypesWhereItWalks : Type 0
+TypesWhereItWalks = (r : Linked) (form : IsFirstForm r) → (walks 0 form.body.positions ≡ true) ↔ Types r

@@ -1,0 +1,213 @@
+-- A member of a type is one of each type above it, and a type with a member has a part.
+use Rattle.std.proofs.Common.{◌≡◌, ℕ, ℤ, zero, suc, refl, sym, ◌∙◌, subst, Bool, true, false, not, ◌&&◌, ◌==◌, Option, Some, None, List, [], ◌∷◌}
+use Rattle.std.proofs.lemmas.Bool.Decides.{Decides-eqb}
+use Rattle.hack_values.specs.declared.cell.Cell.{Cell}
+use Rattle.hack_values.specs.declared.cell.Cell.TheVariants as cells
+use Rattle.hack_values.specs.declared.cell.Slot.{Slot}
+use Rattle.hack_values.specs.declared.cell.Slot.TheVariants as slots
+use Rattle.type_lattice.specs.declared.types.HType.{HType}
+use Rattle.type_lattice.specs.declared.types.IntPart.{IntPart}
+use Rattle.type_lattice.specs.declared.types.IntPart.TheVariants as ints
+use Rattle.type_lattice.specs.declared.types.StrPart.{StrPart}
+use Rattle.type_lattice.specs.declared.types.StrPart.TheVariants as strs
+use Rattle.type_lattice.specs.declared.types.ObjPart.{ObjPart}
+use Rattle.type_lattice.specs.declared.types.ObjPart.TheVariants as objs
+use Rattle.type_lattice.specs.Classes.{Tree, below}
+use Rattle.type_lattice.specs.Order.{FlagLe, IntLe, StrLe, ObjLe, PartLe, LeafLe, EntryLe, Le}
+use Rattle.type_lattice.specs.Types.{short_bytes, initialised, cell}
+use Rattle.type_lattice.specs.Never.{no_ints, no_strs, no_objs, is_absent, is_never, all_alive}
+use Rattle.type_lattice.specs.Member.{Heap, int_in, str_in, is_class, is_below, obj_in, class_at, cell_in, is_member, AreMembers}
+use Rattle.type_lattice.proofs.OrderLaws.{Transitive}
+
+set_above : (a b : Bool) → FlagLe a b → a ≡ true → b ≡ true
+set_above true b h m = h
+set_above false b h m = absurd (cc)
+
+int_in-le : (i : ℤ) (a b : IntPart) → IntLe a b → int_in i a ≡ true → int_in i b ≡ true
+int_in-le i ints.No b h m = absurd (cc)
+int_in-le i (ints.One j) ints.No h m = absurd h
+int_in-le i (ints.One j) (ints.One k) h m = rw (← h) m
+int_in-le i (ints.One j) ints.Any h m = refl
+int_in-le i ints.Any ints.No h m = absurd h
+int_in-le i ints.Any (ints.One k) h m = absurd h
+int_in-le i ints.Any ints.Any h m = refl
+
+str_in-le : (s : List ℕ) (a b : StrPart) → StrLe a b → str_in s a ≡ true → str_in s b ≡ true
+str_in-le s strs.No b h m = absurd (cc)
+str_in-le s (strs.One j) strs.No h m = absurd h
+str_in-le s (strs.One j) (strs.One k) h m = rw (← h) m
+str_in-le s (strs.One j) strs.Any h m = refl
+str_in-le s strs.Any strs.No h m = absurd h
+str_in-le s strs.Any (strs.One k) h m = absurd h
+str_in-le s strs.Any strs.Any h m = refl
+
+is_class-below : (tree : Tree) (d : Option ℕ) (c e : ℕ) → below tree c e ≡ true → is_class d c ≡ true → is_below tree d e ≡ true
+is_class-below tree None c e h m = absurd (cc)
+is_class-below tree (Some d) c e h m = rw ((Decides-eqb d c).0 m) h
+
+module _ (tree : Tree) (higher : Transitive tree) where
+  is_below-below : (d : Option ℕ) (c e : ℕ) → below tree c e ≡ true → is_below tree d c ≡ true → is_below tree d e ≡ true
+  is_below-below None c e h m = absurd (cc)
+  is_below-below (Some d) c e h m = higher d c e m h
+
+  obj_in-le : (d : Option ℕ) (a b : ObjPart) → ObjLe tree a b → obj_in tree d a ≡ true → obj_in tree d b ≡ true
+  obj_in-le d objs.No b h m = absurd (cc)
+  obj_in-le d (objs.Exact c) objs.No h m = absurd h
+  obj_in-le d (objs.Exact c) (objs.Exact e) h m = rw (← h) m
+  obj_in-le d (objs.Exact c) (objs.Sub e) h m = is_class-below tree d c e h m
+  obj_in-le d (objs.Exact c) objs.Any h m = refl
+  obj_in-le d (objs.Sub c) objs.No h m = absurd h
+  obj_in-le d (objs.Sub c) (objs.Exact e) h m = absurd h
+  obj_in-le d (objs.Sub c) (objs.Sub e) h m = is_below-below d c e h m
+  obj_in-le d (objs.Sub c) objs.Any h m = refl
+  obj_in-le d objs.Any objs.No h m = absurd h
+  obj_in-le d objs.Any (objs.Exact e) h m = absurd h
+  obj_in-le d objs.Any (objs.Sub e) h m = absurd h
+  obj_in-le d objs.Any objs.Any h m = refl
+
+  pub cell_in-le : (heap : Heap) (c : Cell) (a b : HType) → Le tree a b → cell_in tree heap c a ≡ true → cell_in tree heap c b ≡ true
+  cell_in-le heap cells.Null a b h m = set_above _ _ h.null m
+  cell_in-le heap (cells.Bool true) a b h m = set_above _ _ h.yes m
+  cell_in-le heap (cells.Bool false) a b h m = set_above _ _ h.no m
+  cell_in-le heap (cells.Int i) a b h m = int_in-le i _ _ h.int m
+  cell_in-le heap (cells.Str s) a b h m = str_in-le s _ _ h.str m
+  cell_in-le heap (cells.Obj n) a b h m = obj_in-le (class_at heap n) _ _ h.obj m
+
+  pub is_member-le : (heap : Heap) (s : Slot) (a b : HType) → Le tree a b → is_member tree heap s a ≡ true → is_member tree heap s b ≡ true
+  is_member-le heap slots.Uninit a b h m = set_above _ _ h.uninit m
+  is_member-le heap (slots.Cell c) a b h m = cell_in-le heap c a b h m
+
+-- what has a member isn't without members
+second_false : (a : Bool) → (a && false) ≡ false
+second_false true = refl
+second_false false = refl
+
+int_in-some : (i : ℤ) (p : IntPart) → int_in i p ≡ true → no_ints p ≡ false
+int_in-some i ints.No h = absurd (cc)
+int_in-some i (ints.One j) h = refl
+int_in-some i ints.Any h = refl
+
+str_in-some : (s : List ℕ) (p : StrPart) → str_in s p ≡ true → no_strs p ≡ false
+str_in-some s strs.No h = absurd (cc)
+str_in-some s (strs.One j) h = refl
+str_in-some s strs.Any h = refl
+
+obj_in-some : (tree : Tree) (d : Option ℕ) (p : ObjPart) → obj_in tree d p ≡ true → no_objs p ≡ false
+obj_in-some tree d objs.No h = absurd (cc)
+obj_in-some tree d (objs.Exact c) h = refl
+obj_in-some tree d (objs.Sub c) h = refl
+obj_in-some tree d objs.Any h = refl
+
+pub is_member-some : (tree : Tree) (heap : Heap) (s : Slot) (t : HType) → is_member tree heap s t ≡ true → is_never t ≡ false
+is_member-some tree heap slots.Uninit t m = rw m refl
+is_member-some tree heap (slots.Cell cells.Null) t m = simp (m, second_false)
+is_member-some tree heap (slots.Cell (cells.Bool true)) t m = simp (m, second_false)
+is_member-some tree heap (slots.Cell (cells.Bool false)) t m = simp (m, second_false)
+is_member-some tree heap (slots.Cell (cells.Int i)) t m = simp (int_in-some i t.int m, second_false)
+is_member-some tree heap (slots.Cell (cells.Str s)) t m = simp (str_in-some s t.str m, second_false)
+is_member-some tree heap (slots.Cell (cells.Obj n)) t m = simp (obj_in-some tree (class_at heap n) t.obj m, second_false)
+
+pub AreMembers-alive : (tree : Tree) (heap : Heap) (ss : List Slot) (ts : List HType) → AreMembers tree heap ss ts → all_alive ts ≡ true
+AreMembers-alive tree heap [] [] h = refl
+AreMembers-alive tree heap [] (t ∷ ts) h = absurd h
+AreMembers-alive tree heap (s ∷ ss) [] h = absurd h
+AreMembers-alive tree heap (s ∷ ss) (t ∷ ts) h = rw (is_member-some tree heap s t h.0) (AreMembers-alive tree heap ss ts h.1)
+
+-- a cell keeps to a type without Uninit
+pub cell_in-initialised : (tree : Tree) (heap : Heap) (c : Cell) (t : HType) → cell_in tree heap c t ≡ true → cell_in tree heap c (initialised t) ≡ true
+cell_in-initialised tree heap cells.Null t h = h
+cell_in-initialised tree heap (cells.Bool true) t h = h
+cell_in-initialised tree heap (cells.Bool false) t h = h
+cell_in-initialised tree heap (cells.Int i) t h = h
+cell_in-initialised tree heap (cells.Str s) t h = h
+cell_in-initialised tree heap (cells.Obj n) t h = h
+
+-- each cell is of the type of all
+pub cell_in-cell : (tree : Tree) (heap : Heap) (c : Cell) → cell_in tree heap c cell ≡ true
+cell_in-cell tree heap cells.Null = refl
+cell_in-cell tree heap (cells.Bool true) = refl
+cell_in-cell tree heap (cells.Bool false) = refl
+cell_in-cell tree heap (cells.Int i) = refl
+cell_in-cell tree heap (cells.Str s) = refl
+cell_in-cell tree heap (cells.Obj n) = refl
+
+-- what is above a type with a part has a part
+both_true : (a b : Bool) → (a && b) ≡ true → (a ≡ true) × (b ≡ true)
+both_true true b h = (refl, h)
+both_true false b h = absurd (cc)
+
+not-le : (a b : Bool) → FlagLe a b → not b ≡ true → not a ≡ true
+not-le false b h k = refl
+not-le true b h k = rw h at k
+
+no_ints-le : (a b : IntPart) → IntLe a b → no_ints b ≡ true → no_ints a ≡ true
+no_ints-le ints.No b h k = refl
+no_ints-le (ints.One i) ints.No h k = absurd h
+no_ints-le (ints.One i) (ints.One j) h k = k
+no_ints-le (ints.One i) ints.Any h k = k
+no_ints-le ints.Any ints.No h k = absurd h
+no_ints-le ints.Any (ints.One j) h k = absurd h
+no_ints-le ints.Any ints.Any h k = k
+
+no_strs-le : (a b : StrPart) → StrLe a b → no_strs b ≡ true → no_strs a ≡ true
+no_strs-le strs.No b h k = refl
+no_strs-le (strs.One i) strs.No h k = absurd h
+no_strs-le (strs.One i) (strs.One j) h k = k
+no_strs-le (strs.One i) strs.Any h k = k
+no_strs-le strs.Any strs.No h k = absurd h
+no_strs-le strs.Any (strs.One j) h k = absurd h
+no_strs-le strs.Any strs.Any h k = k
+
+no_objs-le : (tree : Tree) (a b : ObjPart) → ObjLe tree a b → no_objs b ≡ true → no_objs a ≡ true
+no_objs-le tree objs.No b h k = refl
+no_objs-le tree (objs.Exact c) objs.No h k = absurd h
+no_objs-le tree (objs.Exact c) (objs.Exact d) h k = k
+no_objs-le tree (objs.Exact c) (objs.Sub d) h k = k
+no_objs-le tree (objs.Exact c) objs.Any h k = k
+no_objs-le tree (objs.Sub c) objs.No h k = absurd h
+no_objs-le tree (objs.Sub c) (objs.Exact d) h k = k
+no_objs-le tree (objs.Sub c) (objs.Sub d) h k = k
+no_objs-le tree (objs.Sub c) objs.Any h k = k
+no_objs-le tree objs.Any objs.No h k = absurd h
+no_objs-le tree objs.Any (objs.Exact d) h k = k
+no_objs-le tree objs.Any (objs.Sub d) h k = k
+no_objs-le tree objs.Any objs.Any h k = k
+
+is_absent-le : {A : Type 0} (R : A → A → Type 0) (a b : Option A) → PartLe R a b → is_absent b ≡ true → is_absent a ≡ true
+is_absent-le R None b h k = refl
+is_absent-le R (Some a) None h k = absurd h
+is_absent-le R (Some a) (Some b) h k = k
+
+all_true : (a b c d e f g h i j : Bool) → a ≡ true → b ≡ true → c ≡ true → d ≡ true → e ≡ true → f ≡ true → g ≡ true → h ≡ true → i ≡ true → j ≡ true
+    → (a && (b && (c && (d && (e && (f && (g && (h && (i && j))))))))) ≡ true
+all_true a b c d e f g h i j p q r s t u v w x y = rw (p, q, r, s, t, u, v, w, x, y) refl
+
+is_never-le : (tree : Tree) (a b : HType) → Le tree a b → is_never b ≡ true → is_never a ≡ true
+is_never-le tree a b h k =
+    let k1 = both_true _ _ k in
+    let k2 = both_true _ _ k1.1 in
+    let k3 = both_true _ _ k2.1 in
+    let k4 = both_true _ _ k3.1 in
+    let k5 = both_true _ _ k4.1 in
+    let k6 = both_true _ _ k5.1 in
+    let k7 = both_true _ _ k6.1 in
+    let k8 = both_true _ _ k7.1 in
+    let k9 = both_true _ _ k8.1 in
+    all_true _ _ _ _ _ _ _ _ _ _
+    (not-le _ _ h.uninit k1.0)
+    (not-le _ _ h.null k2.0)
+    (not-le _ _ h.no k3.0)
+    (not-le _ _ h.yes k4.0)
+    (no_ints-le _ _ h.int k5.0)
+    (no_strs-le _ _ h.str k6.0)
+    (no_objs-le tree _ _ h.obj k7.0)
+    (is_absent-le (LeafLe tree) a.vec b.vec h.vec k8.0)
+    (is_absent-le (EntryLe tree) a.dict b.dict h.dict k9.0)
+    (is_absent-le (LeafLe tree) a.keyset b.keyset h.keyset k9.1)
+
+by_never : (a b : Bool) → (b ≡ true → a ≡ true) → not a ≡ true → not b ≡ true
+by_never a true h k = rw (h refl) at k
+by_never a false h k = refl
+
+pub is_alive-le : (tree : Tree) (a b : HType) → Le tree a b → not (is_never a) ≡ true → not (is_never b) ≡ true
+is_alive-le tree a b h k = by_never (is_never a) (is_never b) (is_never-le tree a b h) k
