@@ -8,7 +8,7 @@ use Rattle.hack_values.specs.declared.cell.Cell.{Cell}
 use Rattle.hack_values.specs.declared.cell.Cell.TheVariants as cells
 use Rattle.hack_values.specs.declared.cell.Slot.{Slot}
 use Rattle.hack_values.specs.declared.cell.Slot.TheVariants as slots
-use Rattle.hack_values.specs.declared.object.Object.{Object}
+use Rattle.hack_values.specs.declared.heap.Object.{Object}
 use Rattle.hhbc_ops.specs.declared.op.Op.{Op}
 use Rattle.hhbc_ops.specs.declared.op.Op.TheVariants as ops
 use Rattle.type_lattice.specs.Member.{Heap}

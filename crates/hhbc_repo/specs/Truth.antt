@@ -2,7 +2,7 @@
 use Rattle.std.specs.Prelude.{◌≡◌, ◌≤◌, ◌+◌, ℕ, suc, Bool, true, false, List, Option, Some, None, slice_get, map, ◌++◌, [], ◌∷◌, flat_map, length, All}
 use Rattle.hack_values.specs.declared.cell.Cell.{Cell}
 use Rattle.hack_values.specs.declared.cell.Cell.TheVariants as cells
-use Rattle.hack_values.specs.declared.object.Object.{Object}
+use Rattle.hack_values.specs.declared.heap.Object.{Object}
 use Rattle.type_lattice.specs.declared.types.HType.{HType}
 use Rattle.type_lattice.specs.Types.{cell}
 use Rattle.type_lattice.specs.Member.{Heap, cell_in}

@@ -5,6 +5,12 @@ use Rattle.hack_values.specs.declared.cell.Cell.{Cell}
 use Rattle.hack_values.specs.declared.cell.Cell.TheVariants as cells
 use Rattle.hack_values.specs.declared.cell.Slot.{Slot}
 use Rattle.hack_values.specs.declared.cell.Slot.TheVariants as slots
+use Rattle.std.specs.List.{list_all}
+use Rattle.std.specs.Map.{keys_of, values_of}
+use Rattle.hack_values.specs.View.{cells_of}
+use Rattle.hack_values.specs.declared.key.Key.{Key}
+use Rattle.hack_values.specs.declared.key.Key.TheVariants as keys
+use Rattle.type_lattice.specs.declared.types.Leaf.{Leaf}
 use Rattle.type_lattice.specs.declared.types.HType.{HType}
 use Rattle.type_lattice.specs.declared.types.IntPart.{IntPart}
 use Rattle.type_lattice.specs.declared.types.IntPart.TheVariants as ints
@@ -14,14 +20,28 @@ use Rattle.type_lattice.specs.declared.types.ObjPart.{ObjPart}
 use Rattle.type_lattice.specs.declared.types.ObjPart.TheVariants as objs
 use Rattle.type_lattice.specs.Classes.{Tree, below}
 use Rattle.type_lattice.specs.Order.{FlagLe, IntLe, StrLe, ObjLe, PartLe, LeafLe, EntryLe, Le}
-use Rattle.type_lattice.specs.Types.{short_bytes, initialised, cell}
+use Rattle.type_lattice.specs.Types.{short_bytes, initialised, cell, cell_leaf, key_leaf}
 use Rattle.type_lattice.specs.Never.{no_ints, no_strs, no_objs, is_absent, is_never, all_alive}
-use Rattle.type_lattice.specs.Member.{Heap, int_in, str_in, is_class, is_below, obj_in, class_at, cell_in, is_member, AreMembers}
+use Rattle.type_lattice.specs.Member.{Heap, in_leaf, key_in, vec_in, dict_in, keyset_in, int_in, str_in, is_class, is_below, obj_in, class_at, cell_in, is_member, AreMembers}
 use Rattle.type_lattice.proofs.OrderLaws.{Transitive}
 
 set_above : (a b : Bool) → FlagLe a b → a ≡ true → b ≡ true
 set_above true b h m = h
 set_above false b h m = absurd (cc)
+
+-- two tests that hold
+both_true : (a b : Bool) → (a && b) ≡ true → (a ≡ true) × (b ≡ true)
+both_true true b h = (refl, h)
+both_true false b h = absurd (cc)
+
+-- what holds of each item of a list
+each-le : {A : Type 0} (p q : A → Bool) (xs : List A) → ((x : A) → p x ≡ true → q x ≡ true) → list_all p xs ≡ true → list_all q xs ≡ true
+each-le p q [] h m = refl
+each-le p q (x ∷ xs) h m = let e = both_true _ _ m in rw (h x e.0) (each-le p q xs h e.1)
+
+each : {A : Type 0} (p : A → Bool) (xs : List A) → ((x : A) → p x ≡ true) → list_all p xs ≡ true
+each p [] h = refl
+each p (x ∷ xs) h = rw (h x) (each p xs h)
 
 int_in-le : (i : ℤ) (a b : IntPart) → IntLe a b → int_in i a ≡ true → int_in i b ≡ true
 int_in-le i ints.No b h m = absurd (cc)
@@ -65,12 +85,47 @@ module _ (tree : Tree) (higher : Transitive tree) where
   obj_in-le d objs.Any (objs.Sub e) h m = absurd h
   obj_in-le d objs.Any objs.Any h m = refl
 
+  in_leaf-le : (heap : Heap) (c : Cell) (a b : Leaf) → LeafLe tree a b → in_leaf tree heap a c ≡ true → in_leaf tree heap b c ≡ true
+  in_leaf-le heap cells.Null a b h m = set_above _ _ h.null m
+  in_leaf-le heap (cells.Bool true) a b h m = set_above _ _ h.yes m
+  in_leaf-le heap (cells.Bool false) a b h m = set_above _ _ h.no m
+  in_leaf-le heap (cells.Int i) a b h m = int_in-le i _ _ h.int m
+  in_leaf-le heap (cells.Str s) a b h m = str_in-le s _ _ h.str m
+  in_leaf-le heap (cells.Vec items) a b h m = set_above _ _ h.vec m
+  in_leaf-le heap (cells.Dict entries) a b h m = set_above _ _ h.dict m
+  in_leaf-le heap (cells.Keyset elements) a b h m = set_above _ _ h.keyset m
+  in_leaf-le heap (cells.Obj n) a b h m = obj_in-le (class_at heap n) _ _ h.obj m
+
+  key_in-le : (k : Key) (a b : Leaf) → LeafLe tree a b → key_in a k ≡ true → key_in b k ≡ true
+  key_in-le (keys.Int i) a b h m = int_in-le i _ _ h.int m
+  key_in-le (keys.Str s) a b h m = str_in-le s _ _ h.str m
+
+  vec_in-le : (heap : Heap) (items : List Cell) (a b : Option Leaf) → PartLe (LeafLe tree) a b → vec_in tree heap a items ≡ true → vec_in tree heap b items ≡ true
+  vec_in-le heap items None b h m = absurd (cc)
+  vec_in-le heap items (Some a) None h m = absurd h
+  vec_in-le heap items (Some a) (Some b) h m = each-le _ _ items (λ c. in_leaf-le heap c a b h) m
+
+  dict_in-le : (heap : Heap) (ks : List Key) (items : List Cell) (a b : Option (Leaf × Leaf)) → PartLe (EntryLe tree) a b → dict_in tree heap a ks items ≡ true → dict_in tree heap b ks items ≡ true
+  dict_in-le heap ks items None b h m = absurd (cc)
+  dict_in-le heap ks items (Some a) None h m = absurd h
+  dict_in-le heap ks items (Some a) (Some b) h m =
+      let p = both_true _ _ m in
+      rw (each-le _ _ ks (λ k. key_in-le k a.0 b.0 h.0) p.0) (each-le _ _ items (λ c. in_leaf-le heap c a.1 b.1 h.1) p.1)
+
+  keyset_in-le : (ks : List Key) (a b : Option Leaf) → PartLe (LeafLe tree) a b → keyset_in a ks ≡ true → keyset_in b ks ≡ true
+  keyset_in-le ks None b h m = absurd (cc)
+  keyset_in-le ks (Some a) None h m = absurd h
+  keyset_in-le ks (Some a) (Some b) h m = each-le _ _ ks (λ k. key_in-le k a b h) m
+
   pub cell_in-le : (heap : Heap) (c : Cell) (a b : HType) → Le tree a b → cell_in tree heap c a ≡ true → cell_in tree heap c b ≡ true
   cell_in-le heap cells.Null a b h m = set_above _ _ h.null m
   cell_in-le heap (cells.Bool true) a b h m = set_above _ _ h.yes m
   cell_in-le heap (cells.Bool false) a b h m = set_above _ _ h.no m
   cell_in-le heap (cells.Int i) a b h m = int_in-le i _ _ h.int m
   cell_in-le heap (cells.Str s) a b h m = str_in-le s _ _ h.str m
+  cell_in-le heap (cells.Vec items) a b h m = vec_in-le heap (cells_of items) _ _ h.vec m
+  cell_in-le heap (cells.Dict entries) a b h m = dict_in-le heap (keys_of entries) (cells_of (values_of entries)) _ _ h.dict m
+  cell_in-le heap (cells.Keyset elements) a b h m = keyset_in-le elements _ _ h.keyset m
   cell_in-le heap (cells.Obj n) a b h m = obj_in-le (class_at heap n) _ _ h.obj m
 
   pub is_member-le : (heap : Heap) (s : Slot) (a b : HType) → Le tree a b → is_member tree heap s a ≡ true → is_member tree heap s b ≡ true
@@ -98,6 +153,18 @@ obj_in-some tree d (objs.Exact c) h = refl
 obj_in-some tree d (objs.Sub c) h = refl
 obj_in-some tree d objs.Any h = refl
 
+vec_in-some : (tree : Tree) (heap : Heap) (items : List Cell) (o : Option Leaf) → vec_in tree heap o items ≡ true → is_absent o ≡ false
+vec_in-some tree heap items None h = absurd (cc)
+vec_in-some tree heap items (Some l) h = refl
+
+dict_in-some : (tree : Tree) (heap : Heap) (ks : List Key) (items : List Cell) (o : Option (Leaf × Leaf)) → dict_in tree heap o ks items ≡ true → is_absent o ≡ false
+dict_in-some tree heap ks items None h = absurd (cc)
+dict_in-some tree heap ks items (Some l) h = refl
+
+keyset_in-some : (ks : List Key) (o : Option Leaf) → keyset_in o ks ≡ true → is_absent o ≡ false
+keyset_in-some ks None h = absurd (cc)
+keyset_in-some ks (Some l) h = refl
+
 pub is_member-some : (tree : Tree) (heap : Heap) (s : Slot) (t : HType) → is_member tree heap s t ≡ true → is_never t ≡ false
 is_member-some tree heap slots.Uninit t m = rw m refl
 is_member-some tree heap (slots.Cell cells.Null) t m = simp (m, second_false)
@@ -105,6 +172,9 @@ is_member-some tree heap (slots.Cell (cells.Bool true)) t m = simp (m, second_fa
 is_member-some tree heap (slots.Cell (cells.Bool false)) t m = simp (m, second_false)
 is_member-some tree heap (slots.Cell (cells.Int i)) t m = simp (int_in-some i t.int m, second_false)
 is_member-some tree heap (slots.Cell (cells.Str s)) t m = simp (str_in-some s t.str m, second_false)
+is_member-some tree heap (slots.Cell (cells.Vec items)) t m = simp (vec_in-some tree heap (cells_of items) t.vec m, second_false)
+is_member-some tree heap (slots.Cell (cells.Dict entries)) t m = simp (dict_in-some tree heap (keys_of entries) (cells_of (values_of entries)) t.dict m, second_false)
+is_member-some tree heap (slots.Cell (cells.Keyset elements)) t m = simp (keyset_in-some elements t.keyset m, second_false)
 is_member-some tree heap (slots.Cell (cells.Obj n)) t m = simp (obj_in-some tree (class_at heap n) t.obj m, second_false)
 
 pub AreMembers-alive : (tree : Tree) (heap : Heap) (ss : List Slot) (ts : List HType) → AreMembers tree heap ss ts → all_alive ts ≡ true
@@ -120,7 +190,25 @@ cell_in-initialised tree heap (cells.Bool true) t h = h
 cell_in-initialised tree heap (cells.Bool false) t h = h
 cell_in-initialised tree heap (cells.Int i) t h = h
 cell_in-initialised tree heap (cells.Str s) t h = h
+cell_in-initialised tree heap (cells.Vec items) t h = h
+cell_in-initialised tree heap (cells.Dict entries) t h = h
+cell_in-initialised tree heap (cells.Keyset elements) t h = h
 cell_in-initialised tree heap (cells.Obj n) t h = h
+
+leaf_has : (tree : Tree) (heap : Heap) (c : Cell) → in_leaf tree heap cell_leaf c ≡ true
+leaf_has tree heap cells.Null = refl
+leaf_has tree heap (cells.Bool true) = refl
+leaf_has tree heap (cells.Bool false) = refl
+leaf_has tree heap (cells.Int i) = refl
+leaf_has tree heap (cells.Str s) = refl
+leaf_has tree heap (cells.Vec items) = refl
+leaf_has tree heap (cells.Dict entries) = refl
+leaf_has tree heap (cells.Keyset elements) = refl
+leaf_has tree heap (cells.Obj n) = refl
+
+key_has : (k : Key) → key_in key_leaf k ≡ true
+key_has (keys.Int i) = refl
+key_has (keys.Str s) = refl
 
 -- each cell is of the type of all
 pub cell_in-cell : (tree : Tree) (heap : Heap) (c : Cell) → cell_in tree heap c cell ≡ true
@@ -129,13 +217,12 @@ cell_in-cell tree heap (cells.Bool true) = refl
 cell_in-cell tree heap (cells.Bool false) = refl
 cell_in-cell tree heap (cells.Int i) = refl
 cell_in-cell tree heap (cells.Str s) = refl
+cell_in-cell tree heap (cells.Vec items) = each _ (cells_of items) (leaf_has tree heap)
+cell_in-cell tree heap (cells.Dict entries) = rw (each _ (keys_of entries) key_has) (each _ (cells_of (values_of entries)) (leaf_has tree heap))
+cell_in-cell tree heap (cells.Keyset elements) = each _ elements key_has
 cell_in-cell tree heap (cells.Obj n) = refl
 
 -- what is above a type with a part has a part
-both_true : (a b : Bool) → (a && b) ≡ true → (a ≡ true) × (b ≡ true)
-both_true true b h = (refl, h)
-both_true false b h = absurd (cc)
-
 not-le : (a b : Bool) → FlagLe a b → not b ≡ true → not a ≡ true
 not-le false b h k = refl
 not-le true b h k = rw h at k

@@ -11,6 +11,7 @@ use Rattle.type_lattice.specs.declared.types.ObjPart.TheVariants as objs
 use Rattle.type_lattice.specs.declared.types.Leaf.{Leaf}
 use Rattle.type_lattice.specs.declared.types.HType.{HType}
 use Rattle.type_lattice.specs.Types.{short_bytes}
+use Rattle.type_lattice.specs.Whole.{whole_leaf, whole_key, whole_entry, is_whole}
 
 -- a digit of base 16, in lower case
 abbrev pub hex_digit : ℕ → ℕ
@@ -71,30 +72,6 @@ abbrev pub joined : List (List ℕ) → List ℕ
 joined [] = codes "Never"
 joined (a ∷ more) = a ++ flat_map barred more
 
-abbrev pub int_is_any : IntPart → Bool
-int_is_any ints.No = false
-int_is_any (ints.One i) = false
-int_is_any ints.Any = true
-
-abbrev pub str_is_any : StrPart → Bool
-str_is_any strs.No = false
-str_is_any (strs.One s) = false
-str_is_any strs.Any = true
-
-abbrev pub obj_is_any : ObjPart → Bool
-obj_is_any objs.No = false
-obj_is_any (objs.Exact c) = false
-obj_is_any (objs.Sub c) = false
-obj_is_any objs.Any = true
-
--- it holds every cell
-abbrev pub is_whole : Leaf → Bool
-is_whole l = l.null && (l.no && (l.yes && (int_is_any l.int && (str_is_any l.str && (obj_is_any l.obj && (l.vec && (l.dict && l.keyset)))))))
-
--- the int and str parts are whole, and there are no others (which keys never have)
-abbrev pub is_whole_key : Leaf → Bool
-is_whole_key l = int_is_any l.int && str_is_any l.str
-
 -- the kinds of containers that a leaf holds
 abbrev pub kind_atoms : Leaf → List (List ℕ)
 kind_atoms l = atom l.vec (codes "Vec") ++ (atom l.dict (codes "Dict") ++ atom l.keyset (codes "Keyset"))
@@ -104,7 +81,7 @@ leaf_atoms names l =
     atom l.null (codes "Null") ++ (bool_atoms l.no l.yes ++ (int_atoms l.int ++ (str_atoms l.str ++ (obj_atoms names l.obj ++ kind_atoms l))))
 
 abbrev pub leaf_text : List (List ℕ) → Leaf → List ℕ
-leaf_text names l = if is_whole l then codes "Cell" else joined (leaf_atoms names l)
+leaf_text names l = if whole_leaf l then codes "Cell" else joined (leaf_atoms names l)
 
 -- keys are ints and strings alone
 abbrev pub key_text : Leaf → List ℕ
@@ -117,33 +94,15 @@ bracketed name false inner = (name ++ (60 ∷ (inner ++ 62 ∷ []))) ∷ []
 
 abbrev pub vec_atoms : List (List ℕ) → Option Leaf → List (List ℕ)
 vec_atoms names None = []
-vec_atoms names (Some l) = bracketed (codes "Vec") (is_whole l) (leaf_text names l)
+vec_atoms names (Some l) = bracketed (codes "Vec") (whole_leaf l) (leaf_text names l)
 
 abbrev pub dict_atoms : List (List ℕ) → Option (Leaf × Leaf) → List (List ℕ)
 dict_atoms names None = []
-dict_atoms names (Some d) = bracketed (codes "Dict") (is_whole_key d.0 && is_whole d.1) (key_text d.0 ++ (44 ∷ leaf_text names d.1))
+dict_atoms names (Some d) = bracketed (codes "Dict") (whole_entry d) (key_text d.0 ++ (44 ∷ leaf_text names d.1))
 
 abbrev pub keyset_atoms : Option Leaf → List (List ℕ)
 keyset_atoms None = []
-keyset_atoms (Some k) = bracketed (codes "Keyset") (is_whole_key k) (key_text k)
-
-abbrev pub vec_is_whole : Option Leaf → Bool
-vec_is_whole None = false
-vec_is_whole (Some l) = is_whole l
-
-abbrev pub dict_is_whole : Option (Leaf × Leaf) → Bool
-dict_is_whole None = false
-dict_is_whole (Some d) = is_whole_key d.0 && is_whole d.1
-
-abbrev pub keyset_is_whole : Option Leaf → Bool
-keyset_is_whole None = false
-keyset_is_whole (Some k) = is_whole_key k
-
--- it has every part but Uninit, each whole
-abbrev pub has_all_cells : HType → Bool
-has_all_cells t =
-    t.null && (t.no && (t.yes && (int_is_any t.int && (str_is_any t.str && (obj_is_any t.obj
-    && (vec_is_whole t.vec && (dict_is_whole t.dict && keyset_is_whole t.keyset)))))))
+keyset_atoms (Some k) = bracketed (codes "Keyset") (whole_key k) (key_text k)
 
 -- the atoms of the parts that aren't containers
 abbrev pub scalar_atoms : List (List ℕ) → HType → List (List ℕ)
@@ -153,7 +112,7 @@ abbrev pub container_atoms : List (List ℕ) → HType → List (List ℕ)
 container_atoms names t = vec_atoms names t.vec ++ (dict_atoms names t.dict ++ keyset_atoms t.keyset)
 
 abbrev pub cell_atoms : List (List ℕ) → HType → List (List ℕ)
-cell_atoms names t = if has_all_cells t then codes "Cell" ∷ [] else scalar_atoms names t ++ container_atoms names t
+cell_atoms names t = if is_whole t then codes "Cell" ∷ [] else scalar_atoms names t ++ container_atoms names t
 
 -- a type, given the names of all classes
 abbrev pub type_text : List (List ℕ) → HType → List ℕ

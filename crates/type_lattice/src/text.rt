@@ -5,6 +5,7 @@ ghost use Rattle.std.specs.List.{flat_map};
 ghost use Rattle.std.specs.Fmt.{signed_decimal};
 ghost use Rattle.type_lattice.specs.Types.{short_bytes};
 ghost use Rattle.type_lattice.specs.TypeText as text;
+ghost use Rattle.type_lattice.specs.Whole as whole;
 
 use crate::types::{HType, IntPart, Leaf, ObjPart, Short, StrPart};
 use hack_values::{NoMemory, Seq, Text};
@@ -180,26 +181,26 @@ fn push_joined(out: &mut Text, atoms: &[Text]) -> Result<(), NoMemory>
 }
 
 fn int_is_any(part: IntPart) -> bool
-    ensures { result ≡ text.int_is_any part }
+    ensures { result ≡ whole.all_ints part }
 {
     matches!(part, IntPart::Any)
 }
 
 fn str_is_any(part: StrPart) -> bool
-    ensures { result ≡ text.str_is_any part }
+    ensures { result ≡ whole.all_strs part }
 {
     matches!(part, StrPart::Any)
 }
 
 fn obj_is_any(part: ObjPart) -> bool
-    ensures { result ≡ text.obj_is_any part }
+    ensures { result ≡ whole.all_objs part }
 {
     matches!(part, ObjPart::Any)
 }
 
 /// Whether the leaf holds every cell.
 fn is_whole(leaf: &Leaf) -> bool
-    ensures { result ≡ text.is_whole leaf.now }
+    ensures { result ≡ whole.whole_leaf leaf.now }
 {
     leaf.null
         && leaf.no
@@ -214,7 +215,7 @@ fn is_whole(leaf: &Leaf) -> bool
 
 /// Whether the leaf holds every key.
 fn is_whole_key(leaf: &Leaf) -> bool
-    ensures { result ≡ text.is_whole_key leaf.now }
+    ensures { result ≡ whole.whole_key leaf.now }
 {
     int_is_any(leaf.int) && str_is_any(leaf.str)
 }
@@ -326,7 +327,7 @@ fn put_keyset(alloc: Global, atoms: &mut Seq<Text>, part: &Option<Leaf>) -> Resu
 }
 
 fn vec_is_whole(part: &Option<Leaf>) -> bool
-    ensures { result ≡ text.vec_is_whole part.now }
+    ensures { result ≡ whole.part_is whole.whole_leaf part.now }
 {
     match part {
         Some(leaf) => is_whole(leaf),
@@ -335,7 +336,7 @@ fn vec_is_whole(part: &Option<Leaf>) -> bool
 }
 
 fn dict_is_whole(part: &Option<(Leaf, Leaf)>) -> bool
-    ensures { result ≡ text.dict_is_whole part.now }
+    ensures { result ≡ whole.part_is whole.whole_entry part.now }
 {
     match part {
         Some((key, value)) => is_whole_key(key) && is_whole(value),
@@ -344,7 +345,7 @@ fn dict_is_whole(part: &Option<(Leaf, Leaf)>) -> bool
 }
 
 fn keyset_is_whole(part: &Option<Leaf>) -> bool
-    ensures { result ≡ text.keyset_is_whole part.now }
+    ensures { result ≡ whole.part_is whole.whole_key part.now }
 {
     match part {
         Some(key) => is_whole_key(key),
@@ -354,7 +355,7 @@ fn keyset_is_whole(part: &Option<Leaf>) -> bool
 
 /// Whether the type has every part but Uninit, each whole.
 fn has_all_cells(t: &HType) -> bool
-    ensures { result ≡ text.has_all_cells t.now }
+    ensures { result ≡ whole.is_whole t.now }
 {
     t.null
         && t.no
