@@ -1,7 +1,10 @@
 -- Facts and claims that are true in every run.
 use Rattle.std.specs.Prelude.{◌≡◌, ◌≤◌, ◌+◌, ℕ, suc, Bool, true, false, List, Option, Some, None, slice_get, map, ◌++◌, [], ◌∷◌, flat_map, length, All}
 use Rattle.hack_values.specs.declared.cell.Cell.{Cell}
-use Rattle.hack_values.specs.declared.cell.Cell.TheVariants as cells
+use Rattle.hack_values.specs.Val.{weight, depth}
+use Rattle.hack_values.specs.View.{val_of}
+use Rattle.hack_values.specs.Limits.{max_weight, max_depth}
+use Rattle.hack_values.specs.Objects.{no_object}
 use Rattle.hack_values.specs.declared.heap.Object.{Object}
 use Rattle.type_lattice.specs.declared.types.HType.{HType}
 use Rattle.type_lattice.specs.Types.{cell}
@@ -19,18 +22,11 @@ use Rattle.hhbc_repo.specs.Machine.{World, Frame, Turn, Returns, turn}
 use Rattle.hhbc_repo.specs.Steps.{Config, Running, Ended}
 use Rattle.hhbc_repo.specs.Run.{test, asserts_of, state_after, run, Result}
 
--- 1, and for a string its bytes
-abbrev pub weight : Cell → ℕ
-weight cells.Null = 1
-weight (cells.Bool b) = 1
-weight (cells.Int i) = 1
-weight (cells.Str s) = suc (length s)
-weight (cells.Obj n) = 1
-
--- a cell that a run may be given: no object, and within the limit of weight
-abbrev pub IsArgument : Cell → Type 0
-IsArgument (cells.Obj n) = ⊥
-IsArgument c = weight c ≤ 4194304
+-- a cell that a run may be given: it holds no object, and is within the limits of weight and depth
+pub record IsArgument (c : Cell) : Type 0 where
+  pub plain : no_object (val_of c) ≡ true
+  pub light : weight (val_of c) ≤ max_weight
+  pub flat : depth (val_of c) ≤ max_depth
 
 abbrev pub AreArguments : List Cell → Type 0
 AreArguments args = All IsArgument args
