@@ -1,7 +1,11 @@
 -- Facts and claims that are true in every run.
-use Rattle.std.specs.Prelude.{◌≡◌, ◌≤◌, ◌+◌, ℕ, suc, Bool, true, false, List, Option, Some, None, slice_get, map, ◌++◌, [], ◌∷◌, flat_map, length, All}
+use Rattle.std.specs.Prelude.{◌≡◌, ◌≤◌, ◌||◌, ℕ, suc, Bool, true, false, List, Option, Some, None, slice_get, map, ◌++◌, [], ◌∷◌, flat_map, length, All}
 use Rattle.hack_values.specs.declared.cell.Cell.{Cell}
-use Rattle.hack_values.specs.declared.cell.Cell.TheVariants as cells
+use Rattle.hack_values.specs.Val.{Val, Vals, Pairs, weight, depth}
+use Rattle.hack_values.specs.Val.Val.{null, bool, int, str, vec, dict, keyset, obj}
+use Rattle.hack_values.specs.Val.Vals.{none, more}
+use Rattle.hack_values.specs.Val.Pairs.{no_pair, pair}
+use Rattle.hack_values.specs.View.{val_of}
 use Rattle.hack_values.specs.declared.heap.Object.{Object}
 use Rattle.type_lattice.specs.declared.types.HType.{HType}
 use Rattle.type_lattice.specs.Types.{cell}
@@ -19,18 +23,31 @@ use Rattle.hhbc_repo.specs.Machine.{World, Frame, Turn, Returns, turn}
 use Rattle.hhbc_repo.specs.Steps.{Config, Running, Ended}
 use Rattle.hhbc_repo.specs.Run.{test, asserts_of, state_after, run, Result}
 
--- 1, and for a string its bytes
-abbrev pub weight : Cell → ℕ
-weight cells.Null = 1
-weight (cells.Bool b) = 1
-weight (cells.Int i) = 1
-weight (cells.Str s) = suc (length s)
-weight (cells.Obj n) = 1
+-- whether an object stands in a value
+abbrev mutual
+  pub has_object : Val → Bool
+  has_object null = false
+  has_object (bool b) = false
+  has_object (int i) = false
+  has_object (str s) = false
+  has_object (vec items) = any_object items
+  has_object (dict entries) = any_entry_object entries
+  has_object (keyset elements) = false
+  has_object (obj n) = true
 
--- a cell that a run may be given: no object, and within the limit of weight
-abbrev pub IsArgument : Cell → Type 0
-IsArgument (cells.Obj n) = ⊥
-IsArgument c = weight c ≤ 4194304
+  pub any_object : Vals → Bool
+  any_object none = false
+  any_object (more v vs) = has_object v || any_object vs
+
+  pub any_entry_object : Pairs → Bool
+  any_entry_object no_pair = false
+  any_entry_object (pair k v more_pairs) = has_object v || any_entry_object more_pairs
+
+-- a cell that a run may be given: without objects, and within the limits of weight and depth
+pub record IsArgument (c : Cell) : Type 0 where
+  pub objects : has_object (val_of c) ≡ false
+  pub light : weight (val_of c) ≤ 4194304
+  pub shallow : depth (val_of c) ≤ 64
 
 abbrev pub AreArguments : List Cell → Type 0
 AreArguments args = All IsArgument args
