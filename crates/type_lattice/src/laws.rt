@@ -1,0 +1,8 @@
+//! Laws of the definitions, each the contract of a function that does nothing.
+
+ghost use Rattle.type_lattice.specs.Whole.{WholeIsAboveCell};
+
+/// The types that the type of all cells is below are those with each part whole, whatever the classes.
+pub fn whole_is_above_cell()
+    ensures { WholeIsAboveCell }
+{}
