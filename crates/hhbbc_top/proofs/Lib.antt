@@ -1,3 +1,6 @@
+pub mod Fronts
+pub mod Operands
+pub mod LocalNames
 pub mod TokenLists
 pub mod Names
 pub mod Coding
