@@ -40,12 +40,12 @@ unfolding codes_from
 codes-no_word zero locals depth n name ts us s e d r w = refl
 codes-no_word (suc k) locals depth n name ts us s e d r w = rw (e, d, r, w) refl
 
-codes-last : (k : ℕ) (locals : List (List ℕ)) (depth n : ℕ) (name : List ℕ) (ts us : List Token) (s : Step) → step_in locals name ts ≡ Some (s, us) → depth_behind s depth ≡ Some n
+pub codes-last : (k : ℕ) (locals : List (List ℕ)) (depth n : ℕ) (name : List ℕ) (ts us : List Token) (s : Step) → step_in locals name ts ≡ Some (s, us) → depth_behind s depth ≡ Some n
     → is_return s ≡ true → codes_from (suc k) locals depth name ts ≡ Some (s ∷ [], us)
 unfolding codes_from
 codes-last k locals depth n name ts us s e d r = rw (e, d, r) refl
 
-codes-more : (k : ℕ) (locals : List (List ℕ)) (depth n : ℕ) (name word : List ℕ) (ts us vs : List Token) (s : Step) → step_in locals name ts ≡ Some (s, us) → depth_behind s depth ≡ Some n
+pub codes-more : (k : ℕ) (locals : List (List ℕ)) (depth n : ℕ) (name word : List ℕ) (ts us vs : List Token) (s : Step) → step_in locals name ts ≡ Some (s, us) → depth_behind s depth ≡ Some n
     → is_return s ≡ false → word_in us ≡ Some (word, vs) → codes_from (suc k) locals depth name ts ≡ behind_one s (codes_from k locals n word vs)
 unfolding codes_from
 codes-more k locals depth n name word ts us vs s e d r w = rw (e, d, r, w) refl

@@ -1,6 +1,7 @@
 pub mod Fronts
 pub mod Operands
 pub mod LocalNames
+pub mod CodeLists
 pub mod TokenLists
 pub mod Names
 pub mod Coding
