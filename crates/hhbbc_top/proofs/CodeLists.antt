@@ -1,13 +1,11 @@
 -- The codes of a body as tokens: what is read of them, and what the grammar, linking, the form and the layout rule say of them.
-use Rattle.std.proofs.Common.{◌≡◌, ◌≤◌, ◌+◌, ◌-◌, ◌⊎◌, inl, inr, ℕ, zero, suc, nat_le, refl, sym, ◌∙◌, ap, subst, Bool, true, false, ◌&&◌, cond, List, [], ◌∷◌, ◌++◌, append-nil, append_assoc, map, length, Option, Some, None, arith}
+use Rattle.std.proofs.Common.{◌≡◌, ◌≤◌, ◌+◌, ◌-◌, inl, inr, ℕ, zero, suc, nat_le, refl, sym, ◌∙◌, ap, subst, Bool, true, false, ◌&&◌, cond, List, [], ◌∷◌, ◌++◌, append-nil, append_assoc, map, length, Option, Some, None, arith}
 use Rattle.std.proofs.lemmas.Bool.Decides.{leb_tells}
 use Rattle.hhas_lex.specs.Tokens.{Token, Word}
-use Rattle.hhbc_ops.specs.declared.op.Op.TheVariants as ops
 use Rattle.hhbc_repo.specs.declared.parts.ItemParts.{ItemParts}
 use Rattle.hhbc_repo.specs.declared.parts.ItemParts.TheVariants as items
 use Rattle.hhbc_repo.specs.declared.parts.PositionParts.{PositionParts}
 use Rattle.hhbc_repo.specs.declared.body.Position.{Position}
-use Rattle.hhbc_repo.specs.declared.code.Code.{Code}
 use Rattle.hhbc_repo.specs.Codes.{pops, pushes}
 use Rattle.hhbc_repo.specs.Form.{FitsPosition, FitPositions, IsReturn}
 use Rattle.hhbc_repo.specs.Grammar.{APosition, Items}
@@ -139,15 +137,15 @@ pub record CodesRead (n : ℕ) (locals : List (List ℕ)) (depth : ℕ) (name : 
 last-read : (n : ℕ) (locals : List (List ℕ)) (depth d : ℕ) (name : List ℕ) (ts us : List Token) (s : Step) → StepRead locals name ts us s → depth_behind s depth ≡ Some d
     → is_return s ≡ true → CodesRead (suc n) locals depth name ts (s ∷ []) us
 last-read n locals depth d name ts us s r e back = record {
-      spelled = r.spelled;
-      items = items.Position r.part ∷ [];
-      spells = (r.spelled, [], r.spells, refl, sym (append-nil r.spelled));
-      links = (r.links, tt);
-      fits = (r.fits, returns s back);
-      walked = both (reaches s depth) true (depth-walks s depth d e).0 refl;
-      few = omega arith;
-      split = r.split;
-    }
+  spelled = r.spelled;
+  items = items.Position r.part ∷ [];
+  spells = (r.spelled, [], r.spells, refl, sym (append-nil r.spelled));
+  links = (r.links, tt);
+  fits = (r.fits, returns s back);
+  walked = both (reaches s depth) true (depth-walks s depth d e).0 refl;
+  few = omega arith;
+  split = r.split;
+}
 
 next-read : (n : ℕ) (locals : List (List ℕ)) (depth d : ℕ) (name word : List ℕ) (ts us vs rest : List Token) (s : Step) (more : List Step) → StepRead locals name ts us s
     → depth_behind s depth ≡ Some d → is_return s ≡ false → us ≡ Word word ∷ vs → CodesRead n locals d word vs more rest → CodesRead (suc n) locals depth name ts (s ∷ more) rest
@@ -182,11 +180,11 @@ behind-read : (n : ℕ) (locals : List (List ℕ)) (depth d : ℕ) (name : List 
 behind-read n locals depth d name ts us s codes rest told r e on back =
     let inner : List ℕ × List Token → Found = λ w. codes_from n locals d w.0 w.1 in
     let h : (x : List Step × List Token) × (chain (word_in us) inner ≡ Some x) × (◌≡◌ {A = List Step × List Token} (s ∷ x.0, x.1) (codes, rest)) =
-        behind-some s (chain (word_in us) inner) (codes, rest) back in
+    behind-some s (chain (word_in us) inner) (codes, rest) back in
     let k : (w : List ℕ × List Token) × (word_in us ≡ Some w) × (inner w ≡ Some h.0) = chain-some (word_in us) inner h.0 h.1 in
     let m : CodesRead n locals d k.0.0 k.0.1 h.0.0 h.0.1 = told d k.0.0 k.0.1 h.0.0 h.0.1 k.2 in
     let made : CodesRead (suc n) locals depth name ts (s ∷ h.0.0) h.0.1 =
-        next-read n locals depth d name k.0.0 ts us k.0.1 h.0.1 s h.0.0 r e on (word_in-some us k.0.1 k.0.0 k.1) m in
+    next-read n locals depth d name k.0.0 ts us k.0.1 h.0.1 s h.0.0 r e on (word_in-some us k.0.1 k.0.0 k.1) m in
     subst (λ (p : List Step × List Token). CodesRead (suc n) locals depth name ts p.0 p.1) h.2 made
 
 one-read : (n : ℕ) (locals : List (List ℕ)) (depth d : ℕ) (name : List ℕ) (ts us : List Token) (s : Step) (codes : List Step) (rest : List Token) → Told n locals
@@ -198,9 +196,9 @@ one-read n locals depth d name ts us s codes rest told read e back =
     let last : Found = Some (s ∷ [], us) in
     let more : Found = behind_one s (chain (word_in us) (λ w. codes_from n locals d w.0 w.1)) in
     elim (cond-either (is_return s) last more (codes, rest) back) [
-      inl h ↦ subst (λ (p : List Step × List Token). CodesRead (suc n) locals depth name ts p.0 p.1) (some-is (s ∷ [], us) (codes, rest) h.1)
+      | inl h ↦ subst (λ (p : List Step × List Token). CodesRead (suc n) locals depth name ts p.0 p.1) (some-is (s ∷ [], us) (codes, rest) h.1)
           (last-read n locals depth d name ts us s r e h.0)
-    | inr h ↦ behind-read n locals depth d name ts us s codes rest told r e h.0 h.1
+      | inr h ↦ behind-read n locals depth d name ts us s codes rest told r e h.0 h.1
     ]
 
 pub codes-read : (n : ℕ) (locals : List (List ℕ)) → Told n locals
@@ -208,8 +206,83 @@ unfolding codes_from
 codes-read zero locals depth name ts codes rest e = absurd (cc)
 codes-read (suc n) locals depth name ts codes rest e =
     let second : Step × List Token → ℕ → Found = λ s d.
-        cond (is_return s.0) (Some (s.0 ∷ [], s.1)) (behind_one s.0 (chain (word_in s.1) (λ w. codes_from n locals d w.0 w.1))) in
+    cond (is_return s.0) (Some (s.0 ∷ [], s.1)) (behind_one s.0 (chain (word_in s.1) (λ w. codes_from n locals d w.0 w.1))) in
     let first : Step × List Token → Found = λ s. chain (depth_behind s.0 depth) (second s) in
     let h : (s : Step × List Token) × (step_in locals name ts ≡ Some s) × (first s ≡ Some (codes, rest)) = chain-some (step_in locals name ts) first (codes, rest) e in
     let k : (d : ℕ) × (depth_behind h.0.0 depth ≡ Some d) × (second h.0 d ≡ Some (codes, rest)) = chain-some (depth_behind h.0.0 depth) (second h.0) (codes, rest) h.2 in
     one-read n locals depth k.0 name ts h.0.1 h.0.0 codes rest (codes-read n locals) h.1 k.1 k.2
+
+-- codes of the grammar are read, and linked so
+pub record CodesGiven (n : ℕ) (locals : List (List ℕ)) (depth : ℕ) (ts rest : List Token) (qs : List Position) : Type 0 where
+  pub name : List ℕ
+  pub operands : List Token
+  pub codes : List Step
+  pub split : ts ++ rest ≡ Word name ∷ operands
+  pub reads : codes_from n locals depth name operands ≡ Some (codes, rest)
+  pub is : qs ≡ map position_of codes
+
+no_items : (locals : List (List ℕ)) (is : List ItemParts) → LinksItems locals is [] → is ≡ []
+no_items locals [] h = refl
+no_items locals (items.Position p ∷ is) h = absurd h
+no_items locals (_ ∷ is) h = absurd h
+
+-- the code and how deep the stack is behind it, in the words of the program
+walks-code : (q : Position) (qs : List Position) (s : Step) (depth : ℕ) → q ≡ position_of s → walks depth (q ∷ qs) ≡ true
+    → (depth_behind s depth ≡ Some (deep s depth)) × (walks (deep s depth) qs ≡ true)
+walks-code q qs s depth e w =
+    let v : walks depth (position_of s ∷ qs) ≡ true = subst (λ (p : Position). walks depth (p ∷ qs) ≡ true) e w in
+    let more : Bool = walks (deep s depth) qs in
+    (walks-depth s depth (both-left (reaches s depth) more v), both-right (reaches s depth) more v)
+
+last-given : (n : ℕ) (locals : List (List ℕ)) (depth : ℕ) (a b ts rest : List Token) (p : PositionParts) (is : List ItemParts) (q : Position) → APosition a p → Items b is
+    → ts ≡ a ++ b → LinksPosition locals p q → LinksItems locals is [] → IsReturn q.code → walks depth (q ∷ []) ≡ true → CodesGiven (suc n) locals depth ts rest (q ∷ [])
+last-given n locals depth a b ts rest p is q spells others split links more back walked =
+    let nothing : b ≡ [] = subst (λ (l : List ItemParts). Items b l) (no_items locals is more) others in
+    let alone : ts ≡ a = split ∙ ap (λ (l : List Token). a ++ l) nothing ∙ append-nil a in
+    let g : StepGiven locals a rest q = step-given locals a rest p q spells links in
+    let w : (depth_behind g.step depth ≡ Some (deep g.step depth)) × (walks (deep g.step depth) [] ≡ true) = walks-code q [] g.step depth g.is walked in
+    let return : is_return g.step ≡ true = returns-from g.step (subst (λ (x : Position). IsReturn x.code) g.is back) in
+    record {
+      name = g.name;
+      operands = g.operands;
+      codes = g.step ∷ [];
+      split = ap (λ (l : List Token). l ++ rest) alone ∙ g.split;
+      reads = codes-last n locals depth (deep g.step depth) g.name g.operands rest g.step g.reads w.0 return;
+      is = ap (λ (x : Position). x ∷ []) g.is;
+    }
+
+next-given : (n : ℕ) (locals : List (List ℕ)) (depth : ℕ) (a b ts rest : List Token) (p : PositionParts) (q : Position) (qs : List Position) → APosition a p → ts ≡ a ++ b
+    → LinksPosition locals p q → (IsReturn q.code → ⊥) → walks depth (q ∷ qs) ≡ true → ((d : ℕ) → walks d qs ≡ true → CodesGiven n locals d b rest qs)
+    → CodesGiven (suc n) locals depth ts rest (q ∷ qs)
+next-given n locals depth a b ts rest p q qs spells split links on walked given =
+    let g : StepGiven locals a (b ++ rest) q = step-given locals a (b ++ rest) p q spells links in
+    let w : (depth_behind g.step depth ≡ Some (deep g.step depth)) × (walks (deep g.step depth) qs ≡ true) = walks-code q qs g.step depth g.is walked in
+    let m : CodesGiven n locals (deep g.step depth) b rest qs = given (deep g.step depth) w.1 in
+    let stay : is_return g.step ≡ false = stays-from g.step (λ h. on (subst (λ (x : Position). IsReturn x.code) (sym g.is) h)) in
+    let next : word_in (b ++ rest) ≡ Some (m.name, m.operands) = ap word_in m.split in
+    record {
+      name = g.name;
+      operands = g.operands;
+      codes = g.step ∷ m.codes;
+      split = ap (λ (l : List Token). l ++ rest) split ∙ append_assoc a b rest ∙ g.split;
+      reads = codes-more n locals depth (deep g.step depth) g.name m.name g.operands (b ++ rest) m.operands g.step g.reads w.0 stay next ∙ ap (behind_one g.step) m.reads;
+      is = λ i. g.is i ∷ m.is i;
+    }
+
+fewer : (n : ℕ) (q : Position) (qs : List Position) → length (q ∷ qs) ≤ suc n → length qs ≤ n
+fewer n q qs few = let l : suc (length qs) ≤ suc n = few in omega arith
+
+too_few : (q : Position) (qs : List Position) → length (q ∷ qs) ≤ 0 → ⊥
+too_few q qs few = let l : suc (length qs) ≤ 0 = few in omega arith
+
+pub codes-given : (n : ℕ) (locals : List (List ℕ)) (depth : ℕ) (ts rest : List Token) (is : List ItemParts) (qs : List Position) → Items ts is → LinksItems locals is qs
+    → FitPositions (length locals) qs → walks depth qs ≡ true → length qs ≤ n → CodesGiven n locals depth ts rest qs
+codes-given n locals depth ts rest is [] spells links fits walked few = absurd fits
+codes-given zero locals depth ts rest is (q ∷ qs) spells links fits walked few = absurd (too_few q qs few)
+codes-given (suc n) locals depth ts rest [] (q ∷ qs) spells links fits walked few = absurd links
+codes-given (suc n) locals depth ts rest (items.Position p ∷ is) (q ∷ []) spells links fits walked few =
+    last-given n locals depth spells.0 spells.1 ts rest p is q spells.2 spells.3 spells.4 links.0 links.1 fits.1 walked
+codes-given (suc n) locals depth ts rest (items.Position p ∷ is) (q ∷ r ∷ rs) spells links fits walked few =
+    next-given n locals depth spells.0 spells.1 ts rest p q (r ∷ rs) spells.2 spells.4 links.0 fits.1 walked
+    (λ d w. codes-given n locals d spells.1 rest is (r ∷ rs) spells.3 links.1 fits.2 w (fewer n q (r ∷ rs) few))
+codes-given (suc n) locals depth ts rest (_ ∷ is) (q ∷ qs) spells links fits walked few = absurd spells.2

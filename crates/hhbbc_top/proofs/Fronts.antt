@@ -1,5 +1,5 @@
 -- What was taken from the front of tokens, and which branch was chosen.
-use Rattle.std.proofs.Common.{◌≡◌, ◌⊎◌, inl, inr, ℕ, ℤ, nat_eq, ◌==◌, refl, sym, ◌∙◌, ap, Bool, true, false, cond, List, [], ◌∷◌, Option, Some, None}
+use Rattle.std.proofs.Common.{◌≡◌, ◌⊎◌, inl, inr, ℕ, ℤ, nat_eq, ◌==◌, refl, ap, Bool, true, false, cond, List, [], ◌∷◌, Option, Some, None}
 use Rattle.std.specs.Cmp.Lexicographic.{pointwise, bytes_decides}
 use Rattle.std.proofs.lemmas.Bool.Decides.{Decides-eqb}
 use Rattle.hhas_lex.specs.Tokens.{Token, Directive, Word, Local, Integer, Str, Mark, LessEqual, End, Bad}
@@ -62,7 +62,7 @@ mark_in-some b (Word w ∷ ts) mid e = absurd (cc)
 mark_in-some b (Local w ∷ ts) mid e = absurd (cc)
 mark_in-some b (Integer w ∷ ts) mid e = absurd (cc)
 mark_in-some b (Str w ∷ ts) mid e = absurd (cc)
-mark_in-some b (Mark w ∷ ts) mid e = 
+mark_in-some b (Mark w ∷ ts) mid e =
     let h : ((w == b) ≡ true) × (Some ts ≡ Some mid) = cond-then (w == b) (Some ts) mid e in
     let f : ts ≡ mid = some-is ts mid h.1 in
     λ i. Mark (same-number w b h.0 i) ∷ f i
@@ -72,7 +72,7 @@ mark_in-some b (Bad ∷ ts) mid e = absurd (cc)
 
 pub directive_in-some : (v : List ℕ) (ts mid : List Token) → directive_in v ts ≡ Some mid → ts ≡ Directive v ∷ mid
 directive_in-some v [] mid e = absurd (cc)
-directive_in-some v (Directive w ∷ ts) mid e = 
+directive_in-some v (Directive w ∷ ts) mid e =
     let h : (pointwise nat_eq w v ≡ true) × (Some ts ≡ Some mid) = cond-then (pointwise nat_eq w v) (Some ts) mid e in
     let f : ts ≡ mid = some-is ts mid h.1 in
     λ i. Directive (same-word w v h.0 i) ∷ f i

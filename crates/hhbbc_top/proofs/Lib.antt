@@ -2,6 +2,8 @@ pub mod Fronts
 pub mod Operands
 pub mod LocalNames
 pub mod CodeLists
+pub mod ReadingSound
+pub mod ReadingComplete
 pub mod TokenLists
 pub mod Names
 pub mod Coding

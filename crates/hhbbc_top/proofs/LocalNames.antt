@@ -1,12 +1,12 @@
 -- Declared locals as tokens: what is read of them, and what the grammar and linking say of them.
-use Rattle.std.proofs.Common.{◌≡◌, suc, ◌+◌, get_or, ◌≤◌, ◌<◌, ◌⊎◌, inl, inr, ℕ, nat_eq, nat_le, nat_lt, ◌==◌, refl, sym, ◌∙◌, ap, subst, Bool, true, false, cond, List, [], ◌∷◌, ◌++◌, append_assoc, length, Option, Some, None, is_some, Contains, arith}
+use Rattle.std.proofs.Common.{◌≡◌, suc, ◌+◌, get_or, ◌≤◌, ◌<◌, inl, inr, ℕ, nat_eq, nat_le, nat_lt, ◌==◌, refl, sym, ◌∙◌, ap, subst, Bool, true, false, cond, List, [], ◌∷◌, ◌++◌, append_assoc, length, Option, Some, None, is_some, Contains, arith}
 use Rattle.std.specs.Cmp.Lexicographic.{pointwise, bytes_decides}
 use Rattle.std.specs.List.{position_or_len}
 use Rattle.std.proofs.lemmas.Bool.Decides.{Decides-ltb, leb_tells}
 use Rattle.std.proofs.lemmas.List.{length_push, length-append}
 use Rattle.std.proofs.lemmas.List.Elements.{Contains-append_cases, Contains-append_right, Contains-push_cases}
 use Rattle.std.proofs.lemmas.List.Sums.{fails_before_first, passes_at_first}
-use Rattle.hhas_lex.specs.Tokens.{Token, Directive, Word, Local, Integer, Str, Mark, LessEqual, End, Bad}
+use Rattle.hhas_lex.specs.Tokens.{Token, Local, Mark}
 use Rattle.hhbc_repo.specs.Form.{AllDiffer}
 use Rattle.hhbc_repo.specs.Grammar.{Locals}
 use Rattle.hhbc_repo.specs.Linking.{place_of}
@@ -24,18 +24,18 @@ differ-push : (out : List (List ℕ)) (x : List ℕ) → AllDiffer out → (Cont
 differ-push [] x d fresh = (λ h. contains_nothing x h, tt)
 differ-push (y ∷ ys) x d fresh =
     let inside : Contains (ys ++ x ∷ []) y → ⊥ = λ h.
-        elim (Contains-push_cases ys x y h) [ inl k ↦ d.0 k | inr e ↦ fresh (contains_first x y ys (sym e)) ] in
+    elim (Contains-push_cases ys x y h) [ inl k ↦ d.0 k | inr e ↦ fresh (contains_first x y ys (sym e)) ] in
     (inside, differ-push ys x d.1 (λ h. fresh (Contains-append_right (y ∷ []) ys x h)))
 
 differ-fresh : (out : List (List ℕ)) (x : List ℕ) (xs : List (List ℕ)) → AllDiffer (out ++ x ∷ xs) → Contains out x → ⊥
 differ-fresh [] x xs d h = contains_nothing x h
 differ-fresh (y ∷ ys) x xs d h =
     elim (Contains-append_cases (y ∷ []) ys x h) [
-      inl k ↦ elim (Contains-push_cases [] y x k) [
-          inl n ↦ contains_nothing x n
+      | inl k ↦ elim (Contains-push_cases [] y x k) [
+        | inl n ↦ contains_nothing x n
         | inr e ↦ d.0 (Contains-append_right ys (x ∷ xs) y (contains_first y x xs (sym e)))
-        ]
-    | inr k ↦ differ-fresh ys x xs d.1 k
+      ]
+      | inr k ↦ differ-fresh ys x xs d.1 k
     ]
 
 -- a name without a place is none of the names
@@ -66,9 +66,9 @@ fresh-from : (x : List ℕ) (out : List (List ℕ)) → (Contains out x → ⊥)
 fresh-from x out h =
     let n : ℕ = first_of x out in
     some-choice (nat_lt n (length out)) n ∙ not-true (nat_lt n (length out)) (λ t.
-        let inside : n < length out = (Decides-ltb n (length out)).0 t in
-        let passes : pointwise nat_eq (get_or out n x) x ≡ true = passes_at_first (λ other. pointwise nat_eq other x) out x inside in
-        h (n, inside, (bytes_decides (get_or out n x) x).0 passes))
+    let inside : n < length out = (Decides-ltb n (length out)).0 t in
+    let passes : pointwise nat_eq (get_or out n x) x ≡ true = passes_at_first (λ other. pointwise nat_eq other x) out x inside in
+    h (n, inside, (bytes_decides (get_or out n x) x).0 passes))
 
 small : (n : ℕ) → nat_le 255 n ≡ false → n < 255
 small n e = elim (leb_tells 255 n) [ inl h ↦ absurd (cc (e, h.0)) | inr h ↦ h.1 ]
@@ -110,14 +110,14 @@ names-last out x m ts rest all d l n e =
 names-next : (out : List (List ℕ)) (x : List ℕ) (m : ℕ) (ts rest : List Token) (all : List (List ℕ)) → m ≡ 44 → NamesRead (out ++ x ∷ []) ts all rest
     → NamesRead out (Local x ∷ Mark m ∷ ts) all rest
 names-next out x m ts rest all n r = record {
-      names = x ∷ r.names;
-      spelled = Local x ∷ Mark 44 ∷ r.spelled;
-      spells = locals-more x r.spelled r.names r.spells;
-      is = r.is ∙ append_assoc out (x ∷ []) r.names;
-      split = λ i. Local x ∷ Mark (n i) ∷ r.split i;
-      differ = r.differ;
-      few = r.few;
-    }
+  names = x ∷ r.names;
+  spelled = Local x ∷ Mark 44 ∷ r.spelled;
+  spells = locals-more x r.spelled r.names r.spells;
+  is = r.is ∙ append_assoc out (x ∷ []) r.names;
+  split = λ i. Local x ∷ Mark (n i) ∷ r.split i;
+  differ = r.differ;
+  few = r.few;
+}
 
 abbrev Found : Type 0
 Found = Option (List (List ℕ) × List Token)
@@ -129,14 +129,14 @@ names-one out x m ts rest all d more e =
     let last : Found = cond (m == 59) (Some (out ++ x ∷ [], ts)) None in
     let next : Found = cond (m == 44) (names_from (out ++ x ∷ []) ts) last in
     let a : (nat_le 255 (length out) ≡ false) × (cond (is_some (place_of x out)) None next ≡ Some (all, rest)) =
-        cond-else (nat_le 255 (length out)) (cond (is_some (place_of x out)) None next) (all, rest) e in
+    cond-else (nat_le 255 (length out)) (cond (is_some (place_of x out)) None next) (all, rest) e in
     let b : (is_some (place_of x out) ≡ false) × (next ≡ Some (all, rest)) = cond-else (is_some (place_of x out)) next (all, rest) a.1 in
     let differ : AllDiffer (out ++ x ∷ []) = differ-push out x d (fresh-there x out b.0) in
     elim (cond-either (m == 44) (names_from (out ++ x ∷ []) ts) last (all, rest) b.1) [
-      inl h ↦ names-next out x m ts rest all (same-number m 44 h.0) (more differ h.1)
-    | inr h ↦
-        let k : ((m == 59) ≡ true) × (◌≡◌ {A = Found} (Some (out ++ x ∷ [], ts)) (Some (all, rest))) = cond-then (m == 59) (Some (out ++ x ∷ [], ts)) (all, rest) h.1 in
-        names-last out x m ts rest all differ (small (length out) a.0) (same-number m 59 k.0) k.1
+      | inl h ↦ names-next out x m ts rest all (same-number m 44 h.0) (more differ h.1)
+      | inr h ↦
+          let k : ((m == 59) ≡ true) × (◌≡◌ {A = Found} (Some (out ++ x ∷ [], ts)) (Some (all, rest))) = cond-then (m == 59) (Some (out ++ x ∷ [], ts)) (all, rest) h.1 in
+          names-last out x m ts rest all differ (small (length out) a.0) (same-number m 59 k.0) k.1
     ]
 
 pub names-read : (out : List (List ℕ)) (ts : List Token) (all : List (List ℕ)) (rest : List Token) → AllDiffer out → names_from out ts ≡ Some (all, rest) → NamesRead out ts all rest

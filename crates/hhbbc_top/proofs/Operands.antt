@@ -1,10 +1,10 @@
 -- One code as tokens: what is read of it, and what the grammar and linking say of it.
-use Rattle.std.proofs.Common.{◌≡◌, ◌<◌, ◌⊎◌, inl, inr, ℕ, ℤ, nat_eq, nat_lt, refl, sym, ◌∙◌, ap, subst, Bool, true, false, cond, List, [], ◌∷◌, ◌++◌, append-nil, length, Option, Some, None, arith}
+use Rattle.std.proofs.Common.{◌≡◌, ◌<◌, inl, inr, ℕ, ℤ, nat_eq, nat_lt, refl, sym, ◌∙◌, ap, subst, true, List, [], ◌∷◌, ◌++◌, append-nil, length, Option, Some}
 use Rattle.std.specs.Cmp.Lexicographic.{pointwise}
 use Rattle.std.specs.List.{position_or_len}
 use Rattle.std.proofs.lemmas.Option.{cond_some}
 use Rattle.std.proofs.lemmas.Bool.Decides.{Decides-ltb}
-use Rattle.hhas_lex.specs.Tokens.{Token, Directive, Word, Local, Integer, Str, Mark, LessEqual, End, Bad}
+use Rattle.hhas_lex.specs.Tokens.{Token, Word, Local, Integer}
 use Rattle.hhbc_ops.specs.declared.op.Op.{Op}
 use Rattle.hhbc_ops.specs.declared.op.Op.TheVariants as ops
 use Rattle.hhbc_ops.specs.declared.words.ImmKind.{ImmKind}
@@ -134,8 +134,8 @@ named-is : (all : List Op) (name : List ℕ) (op : Op) → named_among all name 
 named-is [] name op e = absurd (cc)
 named-is (o ∷ more) name op e =
     elim (cond-either (pointwise nat_eq (op_name o) name) (Some o) (named_among more name) op e) [
-      inl h ↦ ap op_name (sym (some-is o op h.1)) ∙ same-word (op_name o) name h.0
-    | inr h ↦ named-is more name op h.1
+      | inl h ↦ ap op_name (sym (some-is o op h.1)) ∙ same-word (op_name o) name h.0
+      | inr h ↦ named-is more name op h.1
     ]
 
 op-is : (name : List ℕ) (op : Op) → op_of name ≡ Some op → op_name op ≡ name
@@ -223,7 +223,7 @@ int-given locals ts us ms js spells links =
     let h : (m : ImmParts) × (ms ≡ m ∷ []) × Operand kinds.Int ts m = one_operand kinds.Int ts ms spells in
     let n : (i : ℤ) × (h.0 ≡ parts.Int i) × (ts ≡ Integer i ∷ []) = int_operand ts h.0 h.2 in
     let l : (j : Imm) × (js ≡ j ∷ []) × LinksOperand locals (parts.Int n.0) j =
-        one_link locals (parts.Int n.0) js (subst (λ (ns : List ImmParts). LinksOperands locals ns js) (h.1 ∙ ap (λ (m : ImmParts). m ∷ []) n.1) links) in
+    one_link locals (parts.Int n.0) js (subst (λ (ns : List ImmParts). LinksOperands locals ns js) (h.1 ∙ ap (λ (m : ImmParts). m ∷ []) n.1) links) in
     let e : js ≡ imms.Int n.0 ∷ [] = l.1 ∙ ap (λ (j : Imm). j ∷ []) (int_link locals n.0 l.0 l.2) in
     record { step = steps.Int n.0; reads = ap (λ (a : List Token). step_of locals ops.Int (a ++ us)) n.2; is = ap (λ (l : List Imm). plain ops.Int l) e }
 
@@ -237,7 +237,7 @@ local-given locals op make ts us ms js reads is spells links =
     let h : (m : ImmParts) × (ms ≡ m ∷ []) × Operand kinds.Local ts m = one_operand kinds.Local ts ms spells in
     let n : (x : List ℕ) × (h.0 ≡ parts.Local x) × (ts ≡ Local x ∷ []) = local_operand ts h.0 h.2 in
     let l : (j : Imm) × (js ≡ j ∷ []) × LinksOperand locals (parts.Local n.0) j =
-        one_link locals (parts.Local n.0) js (subst (λ (ns : List ImmParts). LinksOperands locals ns js) (h.1 ∙ ap (λ (m : ImmParts). m ∷ []) n.1) links) in
+    one_link locals (parts.Local n.0) js (subst (λ (ns : List ImmParts). LinksOperands locals ns js) (h.1 ∙ ap (λ (m : ImmParts). m ∷ []) n.1) links) in
     let k : (place : ℕ) × (l.0 ≡ imms.Local place) × (place_of n.0 locals ≡ Some place) = local_link locals n.0 l.0 l.2 in
     let e : js ≡ imms.Local k.0 ∷ [] = l.1 ∙ ap (λ (j : Imm). j ∷ []) k.1 in
     record {

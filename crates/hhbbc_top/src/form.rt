@@ -2,6 +2,7 @@
 
 ghost use Rattle.std.specs.Prelude.{◌≡◌, ◌≤◌, ◌<◌, ◌^◌, [], ◌==◌, length, IfSome, IfOk};
 ghost use Rattle.hhbc_repo.specs.Linking as linking;
+ghost use Rattle.hhbbc_top.specs.FirstText.{ReadingIsSound, ReadingIsComplete};
 ghost use Rattle.hhbbc_top.specs.Pieces.{Gives, Passes, Reads};
 ghost use Rattle.hhbbc_top.specs.Reading as reading;
 
@@ -266,3 +267,13 @@ pub fn read(alloc: Global, text: &[u8]) -> Result<Main, ReadFault>
     }
     main_in(alloc, &mut Reader::new(text))
 }
+
+/// What is read is of a text of the first form, and its repository is the text's.
+pub fn reading_is_sound()
+    ensures { ReadingIsSound }
+{}
+
+/// Each text of the first form is read, and its repository is what was read.
+pub fn reading_is_complete()
+    ensures { ReadingIsComplete }
+{}
