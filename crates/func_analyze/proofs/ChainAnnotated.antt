@@ -94,7 +94,7 @@ after_rounds : (count : ℕ) (b : Body) → b.regions ≡ [] → FitPositions co
 after_rounds count b g w zero = (top (only (bare_body b)), refl, a_round count b g w _)
 after_rounds count b g w (suc n) = (facts_of b, after_rounds count b g w n, a_round count b g w _)
 
-claims_bare : (ps : List Position) (T : Table) → with_claims (map bare_position ps) T ≡ with_claims ps T
+pub claims_bare : (ps : List Position) (T : Table) → with_claims (map bare_position ps) T ≡ with_claims ps T
 claims_bare [] T = refl
 claims_bare (p ∷ ps) [] = ap (λ (qs : List Position). bare_position p ∷ qs) (claims_bare ps [])
 claims_bare (p ∷ ps) (s ∷ T) = ap₂ (λ (q : Position) (qs : List Position). q ∷ qs) refl (claims_bare ps T)

@@ -114,25 +114,28 @@ states_of b = chain b.positions (Some (entry_state b))
 abbrev pub end_of : Body → HType
 end_of b = returned_at_end b.positions (Some (entry_state b))
 
-pub joined : (count : ℕ) (b : Body) → FitPositions count b.positions → (F : Facts)
-    → IsJoin built_in_tree (IsReturned (only (bare_body b)) F 0 (states_of b)) (end_of b)
-joined count b w F = record {
-  above = λ t i.
-      let x = within b.positions (Some (entry_state b)) i.position i.state i.reached in
-      let g = flow_gives b F i.position x.0 i.state x.1 in
-      subst (λ (t : HType). Le built_in_tree t (returned_at_end b.positions (Some (entry_state b)))) (sym g.returned ∙ i.returned)
-      (below_end count b.positions (Some (entry_state b)) i.position i.state x.0 w i.reached x.1);
-  least = λ u proper h. least u h (end_is b.positions (Some (entry_state b)));
-}
+-- it is below each type that is above what the positions return
+pub end_least : (b : Body) (F : Facts) (u : HType)
+    → ((t : HType) → IsReturned (only (bare_body b)) F 0 (states_of b) t → Le built_in_tree t u) → Le built_in_tree (end_of b) u
+end_least b F u h = from (end_is b.positions (Some (entry_state b)))
   where
-    least : (u : HType) → ((t : HType) → IsReturned (only (bare_body b)) F 0 (chain b.positions (Some (entry_state b))) t → Le built_in_tree t u)
-        → (returned_at_end b.positions (Some (entry_state b)) ≡ never) ⊎ ComesLast b.positions (Some (entry_state b))
-        → Le built_in_tree (returned_at_end b.positions (Some (entry_state b))) u
-    least u h (inl e) = subst (λ (t : HType). Le built_in_tree t u) (sym e) (never-le built_in_tree u)
-    least u h (inr l) =
+    from : (end_of b ≡ never) ⊎ ComesLast b.positions (Some (entry_state b)) → Le built_in_tree (end_of b) u
+    from (inl e) = subst (λ (t : HType). Le built_in_tree t u) (sym e) (never-le built_in_tree u)
+    from (inr l) =
         h _ (record {
           position = l.place;
           state = l.state;
           reached = l.at;
           returned = (flow_gives b F l.place l.position l.state l.there).returned ∙ l.is;
         })
+
+pub joined : (count : ℕ) (b : Body) → FitPositions count b.positions → (F : Facts)
+    → IsJoin built_in_tree (IsReturned (only (bare_body b)) F 0 (states_of b)) (end_of b)
+joined count b w F = record {
+  above = λ t i.
+      let x = within b.positions (Some (entry_state b)) i.position i.state i.reached in
+      let g = flow_gives b F i.position x.0 i.state x.1 in
+      subst (λ (t : HType). Le built_in_tree t (end_of b)) (sym g.returned ∙ i.returned)
+      (below_end count b.positions (Some (entry_state b)) i.position i.state x.0 w i.reached x.1);
+  least = λ u proper h. end_least b F u h;
+}

@@ -1,7 +1,9 @@
 mod ChainAnnotated
 mod ChainLeast
+mod ChainProper
 mod ChainRounds
 mod ClaimsHold
 mod Examples
 mod Faithful
 mod Sound
+mod Unique

@@ -85,7 +85,7 @@ keeps_op count ops.SetL is b f w i h l d =
     keeps_cell f (plain ops.SetL is) w f.stack _ h d (λ x rest k e. (refl, refl, h, omega (arith, e), length_set f.locals (local_of is) (slots.Cell x), refl))
 keeps_op count ops.CGetL (imms.Local n ∷ []) b f w i h l d =
     keeps_local f (plain ops.CGetL (imms.Local n ∷ [])) w f.locals n (name_or_none (slice_get b.locals n)) _ (omega (arith, i, l))
-      (λ x. (refl, refl, h, omega arith, refl, refl))
+    (λ x. (refl, refl, h, omega arith, refl, refl))
 keeps_op count ops.CGetL _ b f w i h l d = absurd i
 keeps_op count ops.RetC is b f w i h l d = keeps_cell f (plain ops.RetC is) w f.stack _ h d (λ x rest k e. tt)
 
@@ -149,14 +149,16 @@ module _ (b : Body) (form : IsFirstBody b) (types : Types (only b)) where
       let d = stack_behind b form q.code (given b f.position) in
       let same : length f.stack ≡ length (given b f.position).stack = h.depth in
       let len : length g.stack ≡ length (given b (suc f.position)).stack =
-        rw n (k.3 ∙ ap (λ (m : ℕ). length (pushes q.code) + (m - length (pops q.code))) same ∙ sym d) in
-      (refl, record {
-        body = k.0 ∙ h.body;
-        within = rw k.1 i;
-        holds = k.2;
-        depth = rw k.1 len;
-        locals = k.4 ∙ h.locals;
-      })
+      rw n (k.3 ∙ ap (λ (m : ℕ). length (pushes q.code) + (m - length (pops q.code))) same ∙ sym d) in (
+        refl,
+        record {
+          body = k.0 ∙ h.body;
+          within = rw k.1 i;
+          holds = k.2;
+          depth = rw k.1 len;
+          locals = k.4 ∙ h.locals;
+        },
+      )
   steady_turn f q (Calls g v) h e k = absurd k
   steady_turn f q (Returns c v) h e k = λ why i. cc
   steady_turn f q (Raises c v) h e k =
@@ -173,7 +175,7 @@ module _ (b : Body) (form : IsFirstBody b) (types : Types (only b)) where
       let d = h.depth in
       let k = keeps_code (length b.locals) q.0.code (bare_body b) f w fits.fits h.holds h.locals (omega (arith, enough, d)) in
       subst (λ (t : Turn). Steady b (finish (only (bare_body b)) f [] t)) (sym (turn_is b f w q.0 h.body q.1))
-        (steady_turn f q.0 (perform_code (Some q.0.code) (bare_body b) f w) h q.1 k)
+      (steady_turn f q.0 (perform_code (Some q.0.code) (bare_body b) f w) h q.1 k)
 
   -- a position of the form has no assertions, so testing them changes nothing
   pub none_tested : (f : Frame) (w : World) (step : Config) → HasShape b f
@@ -182,13 +184,13 @@ module _ (b : Body) (form : IsFirstBody b) (types : Types (only b)) where
       let q = there b.positions f.position h.within in
       let fits = fits_at _ b.positions f.position q.0 form.positions q.1 in
       let none : asserts_of (only b) f ≡ [] =
-        ap (λ (o : Option Body). asserts_in o f.position) (only_at b f.body h.body) ∙ asserts_none b f.position q.0 q.1 fits.bare in
+      ap (λ (o : Option Body). asserts_in o f.position) (only_at b f.body h.body) ∙ asserts_none b f.position q.0 q.1 fits.bare in
       ap (λ (xs : List Assert). tested (test (tree_of (only b)) w.heap f xs) f w step) none
 
   steady_turns : (asserted : Bool) (c : Config) → Steady b c → Steady b (advance (only b) asserted c)
   steady_turns true (Running f fs w) h =
       subst (λ (fs : List Frame). Steady b (advance (only b) true (Running f fs w))) (sym h.0)
-        (subst (λ (c : Config). Steady b c) (sym (none_tested f w (next (only (bare_body b)) (Running f [] w)) h.1)) (steady_next f w h.1))
+      (subst (λ (c : Config). Steady b c) (sym (none_tested f w (next (only (bare_body b)) (Running f [] w)) h.1)) (steady_next f w h.1))
   steady_turns false (Running f fs w) h =
       subst (λ (fs : List Frame). Steady b (advance (only b) false (Running f fs w))) (sym h.0) (steady_next f w h.1)
   steady_turns true (Ended o w) h = h
@@ -212,14 +214,16 @@ module _ (b : Body) (form : IsFirstBody b) (types : Types (only b)) where
 
   steady_counted : (t : Bool) (args : List Cell) → (length args == b.params) ≡ t
       → Steady b (cond t (Running (entered 0 b args) [] no_world) (Ended WrongCount no_world))
-  steady_counted true args e =
-      (refl, record {
-        body = refl;
-        within = some_position b.positions _ form.positions;
-        holds = tt;
-        depth = refl;
-        locals = entered_locals args ((Decides-eqb (length args) b.params).0 e);
-      })
+  steady_counted true args e = (
+    refl,
+    record {
+      body = refl;
+      within = some_position b.positions _ form.positions;
+      holds = tt;
+      depth = refl;
+      locals = entered_locals args ((Decides-eqb (length args) b.params).0 e);
+    },
+  )
   steady_counted false args e = λ why i. cc
 
   steady_named : (t : Bool) (args : List Cell) → Steady b (start_in (cond t (Some (0, b)) None) args)
@@ -236,6 +240,6 @@ steady_result b (Ended o w) why h e = h why e
 pub first_form_never_sticks : FirstFormNeverSticks
 first_form_never_sticks r form types =
     subst (λ (r : Linked). IsNeverStuck r) (sym (first_is r form))
-      (λ entry args n asserted why legal e.
-        let t = subst (λ (r : Linked). Types r) (first_is r form) types in
-        steady_result form.body _ why (steady_after form.body form.first t asserted _ (steady_start form.body form.first t entry args) n) e)
+    (λ entry args n asserted why legal e.
+    let t = subst (λ (r : Linked). Types r) (first_is r form) types in
+    steady_result form.body _ why (steady_after form.body form.first t asserted _ (steady_start form.body form.first t entry args) n) e)

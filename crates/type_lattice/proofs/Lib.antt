@@ -1,2 +1,3 @@
+pub mod Antisymmetry
 pub mod Members
 pub mod OrderLaws
