@@ -1,3 +1,4 @@
 pub mod Antisymmetry
 pub mod Members
 pub mod OrderLaws
+pub mod Single

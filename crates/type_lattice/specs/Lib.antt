@@ -1,8 +1,9 @@
 pub mod Classes
+pub mod Laws
 pub mod Member
 pub mod Never
 pub mod Order
 pub mod Proper
-pub mod Types
 pub mod TypeText
+pub mod Types
 pub mod Whole
