@@ -1,8 +1,7 @@
 -- The rows of all codes: what they don't do, that lower states have lower rows, and that they hold what a turn does.
-use Rattle.std.proofs.Common.{◌≡◌, ℕ, ℤ, zero, suc, refl, Bool, true, false, Option, Some, None, List, [], ◌∷◌, slice_get, slice_set}
+use Rattle.std.proofs.Common.{◌≡◌, ℕ, suc, refl, true, Option, Some, None, List, [], ◌∷◌, slice_get}
 use Rattle.std.proofs.lemmas.Bool.Decides.{Decides-int_eq}
 use Rattle.hack_values.specs.declared.cell.Cell.{Cell}
-use Rattle.hack_values.specs.declared.cell.Cell.TheVariants as cells
 use Rattle.hack_values.specs.declared.cell.Slot.{Slot}
 use Rattle.hack_values.specs.declared.cell.Slot.TheVariants as slots
 use Rattle.hhbc_ops.specs.declared.op.Op.{Op}
@@ -23,7 +22,7 @@ use Rattle.hhbc_repo.specs.Codes.{local_of, int_of}
 use Rattle.hhbc_repo.specs.Truth.{Facts}
 use Rattle.hhbc_repo.specs.Machine.{World, Frame, Turn, Goes, Calls, Returns, Raises, Ends, with_cell, read_slot, perform, perform_code}
 use Rattle.abstract_step.specs.State.{State, AllLe, StateLe}
-use Rattle.abstract_step.specs.Flow.{Row, Effect, nothing, with_type, with_local_type, op_row, row}
+use Rattle.abstract_step.specs.Flow.{Row, nothing, with_type, with_local_type, op_row, row}
 use Rattle.abstract_step.proofs.StateOrder.{BothAt, AllLe-get, AllLe-set, never-le, initialised-le, AreMembers-get, AreMembers-set}
 
 -- codes of constants and locals ask for no other body and no facts

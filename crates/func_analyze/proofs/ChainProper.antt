@@ -1,5 +1,5 @@
 -- The types along a body without jumps are proper.
-use Rattle.std.proofs.Common.{◌≡◌, ℕ, zero, suc, ◌-◌, refl, Bool, true, false, Option, Some, None, List, [], ◌∷◌, ◌++◌, replicate, slice_get, slice_set, length, cond, w64, FitsSigned}
+use Rattle.std.proofs.Common.{ℕ, zero, suc, ◌-◌, refl, Bool, true, false, Option, Some, None, List, [], ◌∷◌, ◌++◌, replicate, slice_get, slice_set, length, cond, w64, FitsSigned}
 use Rattle.hhbc_ops.specs.declared.op.Op.{Op}
 use Rattle.hhbc_ops.specs.declared.op.Op.TheVariants as ops
 use Rattle.type_lattice.specs.declared.types.HType.{HType}

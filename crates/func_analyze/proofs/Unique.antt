@@ -1,23 +1,22 @@
 -- A repository of the first form has one annotated repository.
-use Rattle.std.proofs.Common.{◌≡◌, ℕ, zero, suc, ◌<◌, ◌≤◌, refl, sym, ◌∙◌, ap, subst, Option, Some, None, List, [], ◌∷◌, map, slice_get, length, arith}
+use Rattle.std.proofs.Common.{◌≡◌, ℕ, zero, suc, ◌<◌, ◌≤◌, refl, sym, ◌∙◌, ap, subst, Option, Some, None, List, [], ◌∷◌, slice_get, length, arith}
 use Rattle.type_lattice.specs.declared.types.HType.{HType}
-use Rattle.type_lattice.specs.Order.{Le}
-use Rattle.type_lattice.specs.Proper.{IsProper, IsJoin}
+use Rattle.type_lattice.specs.Proper.{IsJoin}
 use Rattle.type_lattice.proofs.Antisymmetry.{Le-antisym}
 use Rattle.hhbc_repo.specs.declared.body.Body.{Body}
 use Rattle.hhbc_repo.specs.declared.body.Position.{Position}
 use Rattle.hhbc_repo.specs.Linked.{Linked}
-use Rattle.hhbc_repo.specs.Bodies.{built_in_tree, body_at}
-use Rattle.hhbc_repo.specs.Bare.{bare_body, bare_position}
-use Rattle.hhbc_repo.specs.Form.{IsFirstBody, IsFirstForm}
+use Rattle.hhbc_repo.specs.Bodies.{built_in_tree}
+use Rattle.hhbc_repo.specs.Bare.{bare_body}
+use Rattle.hhbc_repo.specs.Form.{IsFirstBody}
 use Rattle.hhbc_repo.specs.Truth.{Facts}
 use Rattle.hhbc_repo.proofs.FirstForm.{only, first_is, built_in_antisymmetric}
-use Rattle.abstract_step.specs.State.{State, StateLe, entry_state}
+use Rattle.abstract_step.specs.State.{State, StateLe}
 use Rattle.abstract_step.proofs.StateSame.{StateLe-antisym}
-use Rattle.func_analyze.specs.Solution.{Table, HasState, HasAbove, IsSolution, IsLeast}
+use Rattle.func_analyze.specs.Solution.{Table, IsLeast}
 use Rattle.func_analyze.specs.Rounds.{IsReturned}
 use Rattle.func_analyze.specs.Annotated.{annotated_body, or_empty, IsAnnotated}
-use Rattle.func_analyze.specs.Chain.{annotated_main, annotated_by}
+use Rattle.func_analyze.specs.Chain.{annotated_by}
 use Rattle.func_analyze.specs.Laws.{AreWords, AnnotatedIsUnique}
 use Rattle.func_analyze.proofs.ChainLeast.{chain_least}
 use Rattle.func_analyze.proofs.ChainRounds.{states_of, end_of, end_least, joined}

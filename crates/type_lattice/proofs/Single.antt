@@ -1,5 +1,5 @@
 -- What the tests of single types decide.
-use Rattle.std.proofs.Common.{◌≡◌, ◌↔◌, refl, sym, ap, Bool, true, false, not, ◌&&◌, Option, Some, None}
+use Rattle.std.proofs.Common.{◌≡◌, ◌↔◌, refl, ap, Bool, true, false, not, ◌&&◌, Option, Some, None}
 use Rattle.type_lattice.specs.declared.types.HType.{HType}
 use Rattle.type_lattice.specs.declared.types.Leaf.{Leaf}
 use Rattle.type_lattice.specs.declared.types.IntPart.{IntPart}
@@ -9,7 +9,7 @@ use Rattle.type_lattice.specs.declared.types.StrPart.TheVariants as strs
 use Rattle.type_lattice.specs.declared.types.ObjPart.{ObjPart}
 use Rattle.type_lattice.specs.declared.types.ObjPart.TheVariants as objs
 use Rattle.type_lattice.specs.Classes.{Tree}
-use Rattle.type_lattice.specs.Order.{FlagLe, IntLe, StrLe, ObjLe, LeafLe, PartLe, EntryLe, Le}
+use Rattle.type_lattice.specs.Order.{IntLe, StrLe, ObjLe, LeafLe, PartLe, EntryLe, Le}
 use Rattle.type_lattice.specs.Types.{never, cell, cell_leaf, key_leaf}
 use Rattle.type_lattice.specs.Never.{no_ints, no_strs, no_objs, is_absent, is_never}
 use Rattle.type_lattice.specs.Whole.{all_ints, all_strs, all_objs, whole_key, whole_leaf, whole_entry, part_is, is_whole}
