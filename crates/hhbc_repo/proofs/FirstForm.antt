@@ -1,11 +1,10 @@
 -- Repositories of the first form: one body, and the built-in classes alone.
-use Rattle.std.proofs.Common.{◌≡◌, ◌⊎◌, inl, inr, ℕ, zero, suc, refl, sym, ◌∙◌, subst, Bool, true, false, ◌||◌, ◌==◌, Option, Some, None, List, [], ◌∷◌}
+use Rattle.std.proofs.Common.{◌≡◌, ◌⊎◌, inl, inr, ℕ, zero, suc, refl, sym, ◌∙◌, subst, Bool, true, false, ◌||◌, ◌==◌, [], ◌∷◌}
 use Rattle.std.proofs.lemmas.Bool.Decides.{Decides-eqb}
-use Rattle.type_lattice.specs.Classes.{Tree, below, has}
+use Rattle.type_lattice.specs.Classes.{below, has}
 use Rattle.type_lattice.proofs.Antisymmetry.{Antisymmetric}
 use Rattle.type_lattice.proofs.OrderLaws.{Transitive}
 use Rattle.hhbc_repo.specs.declared.body.Body.{Body}
-use Rattle.hhbc_repo.specs.declared.repo.Class.{Class}
 use Rattle.hhbc_repo.specs.Linked.{Linked}
 use Rattle.hhbc_repo.specs.Bodies.{built_in_tree}
 use Rattle.hhbc_repo.specs.Form.{IsFirstForm}

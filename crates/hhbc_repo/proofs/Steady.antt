@@ -1,5 +1,5 @@
 -- No run of a repository of the first form that keeps to its shapes is stuck.
-use Rattle.std.proofs.Common.{◌≡◌, ◌↔◌, ℕ, zero, suc, ◌+◌, ◌-◌, ◌<◌, ◌≤◌, refl, sym, ◌∙◌, ap, subst, Bool, true, false, ◌==◌, nat_eq, nat_le, Option, Some, None, List, [], ◌∷◌, ◌++◌, map, replicate, slice_get, slice_set, length, cond, arith, length-append, leb-true}
+use Rattle.std.proofs.Common.{◌≡◌, ℕ, zero, suc, ◌+◌, ◌-◌, ◌<◌, ◌≤◌, refl, sym, ◌∙◌, ap, subst, Bool, true, false, ◌==◌, nat_eq, Option, Some, None, List, [], ◌∷◌, map, replicate, slice_get, slice_set, length, cond, arith, length-append, leb-true}
 use Rattle.std.specs.Cmp.Lexicographic.{pointwise}
 use Rattle.std.proofs.lemmas.Bool.Decides.{Decides-eqb}
 use Rattle.std.proofs.lemmas.Option.{slice_get-map}
@@ -21,18 +21,17 @@ use Rattle.hhbc_repo.specs.declared.body.Position.{Position}
 use Rattle.hhbc_repo.specs.declared.body.Assert.{Assert}
 use Rattle.hhbc_repo.specs.Linked.{Linked}
 use Rattle.hhbc_repo.specs.Bodies.{body_at, code_at, tree_of}
-use Rattle.hhbc_repo.specs.Bare.{bare, bare_body, bare_position}
-use Rattle.hhbc_repo.specs.Codes.{local_of, pops, pushes, op_pops, op_pushes, goes_on, op_goes_on}
-use Rattle.hhbc_repo.specs.Edges.{handler_of}
-use Rattle.hhbc_repo.specs.Form.{FitsOperands, FitsCode, FitPositions, IsFirstBody, IsFirstForm}
-use Rattle.hhbc_repo.specs.Outcome.{Place, Outcome, Returned, Uncaught, Fatal, AssertFalse, Steps, Stuck, UnknownEntry, WrongCount, Why}
-use Rattle.hhbc_repo.specs.Machine.{World, Frame, Turn, Goes, Calls, Returns, Raises, Ends, End, Fails, Sticks, with_cell, read_slot, name_or_none, perform, perform_code, turn_in, turn}
-use Rattle.hhbc_repo.specs.Steps.{Config, Running, Ended, place_of, handler_in, caught, uncaught, uncaught_cell, resume, unwind, finish, next}
-use Rattle.hhbc_repo.specs.Run.{test, asserts_in, asserts_of, tested, advance, after, entered, no_world, function_from, start_in, start, result_of}
+use Rattle.hhbc_repo.specs.Bare.{bare_body, bare_position}
+use Rattle.hhbc_repo.specs.Codes.{local_of, pops, pushes, op_pops, goes_on}
+use Rattle.hhbc_repo.specs.Form.{FitsOperands, FitsCode, FitPositions, IsFirstBody}
+use Rattle.hhbc_repo.specs.Outcome.{Place, Stuck, WrongCount, Why}
+use Rattle.hhbc_repo.specs.Machine.{World, Frame, Turn, Goes, Calls, Returns, Raises, Ends, Fails, Sticks, with_cell, read_slot, name_or_none, perform, perform_code, turn_in, turn}
+use Rattle.hhbc_repo.specs.Steps.{Config, Running, Ended, place_of, handler_in, caught, uncaught, uncaught_cell, finish, next}
+use Rattle.hhbc_repo.specs.Run.{test, asserts_in, asserts_of, tested, advance, after, entered, no_world, start_in, start, result_of}
 use Rattle.hhbc_repo.specs.Truth.{IsNeverStuck, FirstFormNeverSticks}
-use Rattle.hhbc_repo.specs.Shapes.{Shape, given, fault_at, Types}
+use Rattle.hhbc_repo.specs.Shapes.{given, Types}
 use Rattle.hhbc_repo.proofs.FirstForm.{only, first_is}
-use Rattle.hhbc_repo.proofs.Walking.{code_is, fits_at, there, given_next, decides, goes_within, stack_behind, asserts_none}
+use Rattle.hhbc_repo.proofs.Walking.{fits_at, there, given_next, decides, goes_within, stack_behind, asserts_none}
 
 -- each slot holds a cell
 abbrev pub AllHold : List Slot → Type 0
