@@ -10,3 +10,4 @@ pub mod Casts
 pub mod Operations
 pub mod Show
 pub mod Natives
+pub mod Objects

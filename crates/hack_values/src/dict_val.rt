@@ -65,6 +65,7 @@ impl DictVal {
             None => false,
         }
     }
+
     /// Puts a value under a key: a key that is there keeps its place, and a new one goes last.
     /// Drops both where they are refused.
     pub fn add_elem(&mut self, key: Key, value: Cell) -> Result<(), ValueFault>

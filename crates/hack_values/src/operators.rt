@@ -1,4 +1,4 @@
-ghost use Rattle.std.specs.Prelude.{◌≡◌, IsTrue, Some};
+ghost use Rattle.std.specs.Prelude.{◌≡◌, ◌≢◌, IsTrue, Some};
 ghost use Rattle.hack_values.specs.Operations.{op1, op2, compares, sign_of, joined, IsAnswer};
 
 use crate::arithmetic::on_ints;
@@ -65,9 +65,10 @@ pub enum UnOp {
 /// The most bytes that `Concat` makes.
 const MAX_TEXT: usize = 1_048_576;
 
-/// The operator's value at two cells, the left one first.
+/// The operator's value at two cells, the left one first. Only `Concat` takes memory.
 pub fn binary(alloc: Global, op: BinOp, a: &Cell, b: &Cell) -> Result<Cell, OpFault>
-    ensures { IsAnswer result (op2 op a.now b.now) }
+    ensures answer { IsAnswer result (op2 op a.now b.now) }
+    ensures in_place { op ≢ BinOp.Concat → result ≡ op2 op a.now b.now }
 {
     match op {
         BinOp::Same => Ok(Cell::Bool(same(a, b))),
@@ -130,9 +131,10 @@ fn join(alloc: Global, first: &[u8], second: &[u8]) -> Result<Cell, OpFault>
     Ok(Cell::Str(text))
 }
 
-/// The operator's value at a cell.
+/// The operator's value at a cell. Only `CastString` takes memory.
 pub fn unary(alloc: Global, op: UnOp, a: &Cell) -> Result<Cell, OpFault>
-    ensures { IsAnswer result (op1 op a.now) }
+    ensures answer { IsAnswer result (op1 op a.now) }
+    ensures in_place { op ≢ UnOp.CastString → result ≡ op1 op a.now }
 {
     match op {
         UnOp::Not => Ok(Cell::Bool(!truthy(a))),

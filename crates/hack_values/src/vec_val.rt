@@ -22,6 +22,7 @@ impl VecVal {
         self.known = None;
         self.items.get_mut(at)
     }
+
     /// Puts a value at the end, and drops it where it is refused. Takes the time of weighing the value,
     /// where the vec was only appended to since it was made.
     #[tactic(auto, using(crate::proofs::Rows::grows, crate::specs::Val::rows))]

@@ -9,3 +9,4 @@ pub mod Exact
 pub mod Grows
 pub mod Following
 pub mod Spelled
+pub mod Proper

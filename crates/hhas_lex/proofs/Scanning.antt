@@ -37,7 +37,7 @@ word-limit bs =
     let w = run-front is_word_byte bs in
     ap (λ n. nat_le n 100) (omega (arith, length-take-le (run_of is_word_byte bs) bs w.inside))
 
-shape-word : (b : ℕ) → is_word_start b ≡ true → (xs : List ℕ) → shape (b ∷ xs) ≡ when (list_all is_word_byte xs) kinds.Word
+pub shape-word : (b : ℕ) → is_word_start b ≡ true → (xs : List ℕ) → shape (b ∷ xs) ≡ when (list_all is_word_byte xs) kinds.Word
 unfolding shape
 shape-word b e xs = rw e refl
 
@@ -47,7 +47,7 @@ word_scan b bs e =
     scan-front b bs (list_all is_word_byte) (λ xs. kinds.Word) (run_of is_word_byte bs) (shape-word b e) (run-front is_word_byte bs)
     ∙ answered _ _ kinds.Word _ _ (word-limit bs) (omega arith)
 
-shape-local : (xs : List ℕ) → shape (36 ∷ xs) ≡ when (is_name is_word_start is_word_byte xs) kinds.Local
+pub shape-local : (xs : List ℕ) → shape (36 ∷ xs) ≡ when (is_name is_word_start is_word_byte xs) kinds.Local
 unfolding shape
 shape-local xs = refl
 
@@ -65,7 +65,7 @@ local-scan b bs =
     (λ e. scan-none 36 (b ∷ bs) (is_name is_word_start is_word_byte) (λ xs. kinds.Local) shape-local (name-not is_word_start is_word_byte b bs e)
     ∙ passed (is_word_start b) (answer (nat_le (1 + n) 100) kinds.Local (2 + n)) None e)
 
-shape-directive : (xs : List ℕ) → shape (46 ∷ xs) ≡ when (is_name is_lower is_lower xs) kinds.Directive
+pub shape-directive : (xs : List ℕ) → shape (46 ∷ xs) ≡ when (is_name is_lower is_lower xs) kinds.Directive
 unfolding shape
 shape-directive xs = refl
 
@@ -112,7 +112,7 @@ positive_scan b bs e1 e2 e3 =
     ∙ ap (λ v. answer (nat_lt v (2 ^ 63)) (kinds.Integer (pos v)) (suc n)) (number-first b (take n bs))
     ∙ ap (λ m. answer (nat_lt (number_from (b - 48) (take n bs)) (2 ^ 63)) (kinds.Integer (pos (number_from (b - 48) (take n bs)))) m) (omega arith)
 
-shape-negative : (xs : List ℕ) → shape (45 ∷ xs) ≡ when (is_name is_leading_digit is_digit xs) (kinds.Integer (neg_ℤ (pos (number_of xs))))
+pub shape-negative : (xs : List ℕ) → shape (45 ∷ xs) ≡ when (is_name is_leading_digit is_digit xs) (kinds.Integer (neg_ℤ (pos (number_of xs))))
 unfolding shape
 shape-negative xs = refl
 
@@ -139,7 +139,7 @@ negative-scan b bs =
     (λ e. scan-none 45 (b ∷ bs) (is_name is_leading_digit is_digit) kind shape-negative (name-not is_leading_digit is_digit b bs e)
     ∙ passed (is_leading_digit b) read None e)
 
-shape-string : (xs : List ℕ) → shape (34 ∷ xs) ≡ when (closes xs) kinds.Str
+pub shape-string : (xs : List ℕ) → shape (34 ∷ xs) ≡ when (closes xs) kinds.Str
 unfolding shape
 shape-string xs = refl
 
@@ -202,7 +202,7 @@ mark-scan b c bs e1 e2 e3 =
     (λ e. two-marks b c bs (shape-mark b e1 e2 e3) e ∙ chosen t (Some (kinds.LessEqual, 2)) (Some (kinds.Mark b, 1)) e)
     (λ e. one-mark b c bs (shape-mark b e1 e2 e3) e ∙ passed t (Some (kinds.LessEqual, 2)) (Some (kinds.Mark b, 1)) e)
 
-shape-other : (b : ℕ) → is_word_start b ≡ false → is_digit b ≡ false → is_mark b ≡ false → (b == 46) ≡ false → (b == 36) ≡ false → (b == 45) ≡ false → (b == 34) ≡ false
+pub shape-other : (b : ℕ) → is_word_start b ≡ false → is_digit b ≡ false → is_mark b ≡ false → (b == 46) ≡ false → (b == 36) ≡ false → (b == 45) ≡ false → (b == 34) ≡ false
     → (xs : List ℕ) → shape (b ∷ xs) ≡ when false kinds.End
 unfolding shape
 shape-other b e1 e2 e3 e4 e5 e6 e7 xs = rw (e1, e2, e3, e4, e5, e6, e7) refl

@@ -1,12 +1,13 @@
 //! The lexer.
 
-ghost use Rattle.std.specs.Prelude.{◌≡◌, ◌+◌, ◌-◌, ◌≤◌, ◌<◌, ◌^◌, length, drop, IfOk, IfErr};
+ghost use Rattle.std.specs.Prelude.{◌≡◌, ◌≢◌, true, ◌+◌, ◌-◌, ◌≤◌, ◌<◌, ◌^◌, length, drop, IfOk, IfErr};
 ghost use Rattle.hhas_lex.specs.Shape.{IsTokenAt, NoToken};
+ghost use Rattle.hhas_lex.specs.Spelling.{is_proper};
 ghost use Rattle.hhas_lex.specs.Tokens.{Bad, front, front_place, behind, left, left_places, meaning, gap, gap_within};
 
 use crate::bytes::is_white;
 use crate::scan::scan;
-use crate::token::{LexFault, Token};
+use crate::token::{LexFault, Token, TokenKind};
 use std::marker::Model;
 
 /// The tokens of a text, one after the other.
@@ -69,6 +70,7 @@ impl<'a> Lexer<'a> {
         // It is the longest that begins there, and there is none exactly where the lexer finds a fault.
         ensures longest { IfOk result (λ t. IsTokenAt (drop t.start self.old.text) t.kind (t.end - t.start)) }
         ensures none { IfErr result (λ f. NoToken (drop f.at self.old.text)) }
+        ensures proper { IfOk result (λ t. t.kind ≢ TokenKind.End → is_proper (meaning self.old.text t) ≡ true) }
 
         // The places where the tokens begin go along.
         ensures places { IfOk result (λ t. (front_place (left_places self.old) ≡ t.start) × (left_places self.new ≡ behind (left_places self.old))) }

@@ -102,9 +102,9 @@ never_stuck heap cells.Null p why e = cc
 never_stuck heap (cells.Bool b) p why e = cc
 never_stuck heap (cells.Int i) p why e = cc
 never_stuck heap (cells.Str s) p why e = cc
-never_stuck heap (cells.Vec items) p why e = cc
-never_stuck heap (cells.Dict entries) p why e = cc
-never_stuck heap (cells.Keyset elements) p why e = cc
+never_stuck heap (cells.Vec vs) p why e = cc
+never_stuck heap (cells.Dict es) p why e = cc
+never_stuck heap (cells.Keyset ks) p why e = cc
 never_stuck heap (cells.Obj n) p why e = not_stuck (slice_get heap n) p why e
 
 pub only_at : (b : Body) (n : ℕ) → n ≡ 0 → body_at (only b) n ≡ Some b

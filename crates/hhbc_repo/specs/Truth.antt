@@ -1,11 +1,10 @@
 -- Facts and claims that are true in every run.
-use Rattle.std.specs.Prelude.{◌≡◌, ◌≤◌, ◌||◌, ℕ, Bool, true, false, List, Option, Some, None, slice_get, map, ◌∷◌, flat_map, All}
+use Rattle.std.specs.Prelude.{◌≡◌, ◌≤◌, ℕ, Bool, true, false, List, Option, Some, None, slice_get, map, ◌∷◌, flat_map, All}
 use Rattle.hack_values.specs.declared.cell.Cell.{Cell}
-use Rattle.hack_values.specs.Val.{Val, Vals, Pairs, weight, depth}
-use Rattle.hack_values.specs.Val.Val.{null, bool, int, str, vec, dict, keyset, obj}
-use Rattle.hack_values.specs.Val.Vals.{none, more}
-use Rattle.hack_values.specs.Val.Pairs.{no_pair, pair}
+use Rattle.hack_values.specs.Val.{weight, depth}
 use Rattle.hack_values.specs.View.{val_of}
+use Rattle.hack_values.specs.Limits.{max_weight, max_depth}
+use Rattle.hack_values.specs.Objects.{no_object}
 use Rattle.hack_values.specs.declared.heap.Object.{Object}
 use Rattle.type_lattice.specs.declared.types.HType.{HType}
 use Rattle.type_lattice.specs.Member.{Heap, cell_in}
@@ -22,31 +21,11 @@ use Rattle.hhbc_repo.specs.Machine.{World, Frame, Returns, turn}
 use Rattle.hhbc_repo.specs.Steps.{Config, Running, Ended}
 use Rattle.hhbc_repo.specs.Run.{test, asserts_of, state_after, run}
 
--- whether an object stands in a value
-abbrev mutual
-  pub has_object : Val → Bool
-  has_object null = false
-  has_object (bool b) = false
-  has_object (int i) = false
-  has_object (str s) = false
-  has_object (vec items) = any_object items
-  has_object (dict entries) = any_entry_object entries
-  has_object (keyset elements) = false
-  has_object (obj n) = true
-
-  pub any_object : Vals → Bool
-  any_object none = false
-  any_object (more v vs) = has_object v || any_object vs
-
-  pub any_entry_object : Pairs → Bool
-  any_entry_object no_pair = false
-  any_entry_object (pair k v more_pairs) = has_object v || any_entry_object more_pairs
-
--- a cell that a run may be given: without objects, and within the limits of weight and depth
+-- a cell that a run may be given: it holds no object, and is within the limits of weight and depth
 pub record IsArgument (c : Cell) : Type 0 where
-  pub objects : has_object (val_of c) ≡ false
-  pub light : weight (val_of c) ≤ 4194304
-  pub shallow : depth (val_of c) ≤ 64
+  pub plain : no_object (val_of c) ≡ true
+  pub light : weight (val_of c) ≤ max_weight
+  pub flat : depth (val_of c) ≤ max_depth
 
 abbrev pub AreArguments : List Cell → Type 0
 AreArguments args = All IsArgument args

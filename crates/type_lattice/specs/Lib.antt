@@ -1,5 +1,4 @@
 pub mod Classes
-pub mod Laws
 pub mod Member
 pub mod Never
 pub mod Order

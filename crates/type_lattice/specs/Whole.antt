@@ -1,5 +1,5 @@
 -- Types that each cell has.
-use Rattle.std.specs.Prelude.{Bool, true, false, ◌&&◌, Option, Some, None}
+use Rattle.std.specs.Prelude.{◌≡◌, ◌↔◌, Bool, true, false, ◌&&◌, Option, Some, None}
 use Rattle.type_lattice.specs.declared.types.IntPart.{IntPart}
 use Rattle.type_lattice.specs.declared.types.IntPart.TheVariants as ints
 use Rattle.type_lattice.specs.declared.types.StrPart.{StrPart}
@@ -8,6 +8,9 @@ use Rattle.type_lattice.specs.declared.types.ObjPart.{ObjPart}
 use Rattle.type_lattice.specs.declared.types.ObjPart.TheVariants as objs
 use Rattle.type_lattice.specs.declared.types.Leaf.{Leaf}
 use Rattle.type_lattice.specs.declared.types.HType.{HType}
+use Rattle.type_lattice.specs.Classes.{Tree}
+use Rattle.type_lattice.specs.Order.{Le}
+use Rattle.type_lattice.specs.Types.{cell}
 
 abbrev pub all_ints : IntPart → Bool
 all_ints ints.No = false
@@ -44,3 +47,6 @@ abbrev pub is_whole : HType → Bool
 is_whole t =
     t.null && (t.no && (t.yes && (all_ints t.int && (all_strs t.str && (all_objs t.obj
     && (part_is whole_leaf t.vec && (part_is whole_entry t.dict && part_is whole_key t.keyset)))))))
+
+abbrev pub WholeIsAboveCell : Type 0
+WholeIsAboveCell = (tree : Tree) (t : HType) → (is_whole t ≡ true) ↔ Le tree cell t

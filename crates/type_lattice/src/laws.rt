@@ -1,8 +1,9 @@
 //! Laws of the definitions, each the contract of a function that does nothing.
 
-ghost use Rattle.type_lattice.specs.Laws.{NeverIsNever, WholeIsAboveCell};
+ghost use Rattle.type_lattice.specs.Never.{NeverIsNever};
+ghost use Rattle.type_lattice.specs.Whole.{WholeIsAboveCell};
 
-/// The type of all cells is below exactly the types that have each part whole.
+/// The types that the type of all cells is below are those with each part whole, whatever the classes.
 pub fn whole_is_above_cell()
     ensures { WholeIsAboveCell }
 {}

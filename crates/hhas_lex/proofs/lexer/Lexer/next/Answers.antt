@@ -1,5 +1,6 @@
 use Rattle.std.proofs.Common.{◌+◌, refl, ap, None}
 use Rattle.hhas_lex.proofs.Following.{seen, seen-taken, seen-fails, seen-longest, seen-nothing}
+use Rattle.hhas_lex.proofs.Proper.{token-proper}
 use Rattle.hhas_lex.proofs.lexer.Lexer.next.Goals as goal
 
 pub returns-in-Some-clause-token : goal.returns-in-Some-clause-token
@@ -37,3 +38,10 @@ returns-in-None-clause-none c =
     rw (← c.self.view_is)
     (seen-nothing c.self.inside.text.now c.self.inside.at c.gap_length.result
     (seen _ _ _ c.scan.result _ c.gap_length.ensures.value c.scan.ensures.value c.in-None.is))
+
+pub returns-in-Some-clause-proper : goal.returns-in-Some-clause-proper
+returns-in-Some-clause-proper c =
+    rw (← c.self.view_is)
+    (token-proper _ _ _
+    (seen-longest c.self.inside.text.now c.self.inside.at c.gap_length.result c.in-Some.kind c.in-Some.count
+    (seen _ _ _ c.scan.result _ c.gap_length.ensures.value c.scan.ensures.value c.in-Some.is)))
