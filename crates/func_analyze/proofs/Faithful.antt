@@ -36,7 +36,7 @@ use Rattle.func_analyze.proofs.ClaimsHold.{claims_at, bare_annotated}
 abbrev told : Body → Option HType → Table → Body
 told b t T = annotated_body (bare_body b) t T
 
-one_of : (Ts : List Table) → length Ts ≡ 1 → (T : Table) × (slice_get Ts 0 ≡ Some T)
+pub one_of : (Ts : List Table) → length Ts ≡ 1 → (T : Table) × (slice_get Ts 0 ≡ Some T)
 one_of [] e = absurd (omega arith)
 one_of (T ∷ Ts) e = (T, refl)
 
@@ -83,7 +83,7 @@ none_stated A heap n o e i c f zero g t k = absurd (cc)
 none_stated A heap n o e i c f (suc q) g t k = absurd (cc)
 
 -- what the body returns is of the join of its returned types
-returns_join : (b : Body) (form : IsFirstBody b) (F : Facts) (T : Table) → IsSolution (only (bare_body b)) F 0 T → (t : HType) → IsJoin built_in_tree (IsReturned (only (bare_body b)) F 0 T) t
+pub returns_join : (b : Body) (form : IsFirstBody b) (F : Facts) (T : Table) → IsSolution (only (bare_body b)) F 0 T → (t : HType) → IsJoin built_in_tree (IsReturned (only (bare_body b)) F 0 T) t
     → (f : Frame) (w : World) → Sits T f w.heap → (o : Option Position) → slice_get b.positions f.position ≡ o
     → (c : Cell) (v : World) → turn (only (bare_body b)) f w ≡ Returns c v → cell_in built_in_tree v.heap c t ≡ true
 returns_join b form F T solves t join f w h None e c v i =

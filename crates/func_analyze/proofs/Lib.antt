@@ -4,6 +4,7 @@ mod ChainProper
 mod ChainRounds
 mod ClaimsHold
 mod Examples
+mod FactsTrue
 mod Faithful
 mod Sound
 mod Unique

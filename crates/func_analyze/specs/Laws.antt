@@ -8,10 +8,11 @@ use Rattle.hhbc_repo.specs.Codes.{int_of}
 use Rattle.hhbc_repo.specs.Linked.{Linked}
 use Rattle.hhbc_repo.specs.Form.{IsFirstForm}
 use Rattle.hhbc_repo.specs.Bare.{bare}
-use Rattle.hhbc_repo.specs.Truth.{Facts, IsFaithful}
+use Rattle.hhbc_repo.specs.Truth.{Facts, AreTrue, IsFaithful}
 use Rattle.hhbc_repo.specs.Shapes.{Types}
 use Rattle.abstract_step.specs.State.{entry_state}
 use Rattle.func_analyze.specs.Solution.{IsLeast}
+use Rattle.func_analyze.specs.Rounds.{IsFacts}
 use Rattle.func_analyze.specs.Annotated.{IsAnnotated}
 use Rattle.func_analyze.specs.Chain.{chain, annotated_by}
 
@@ -41,3 +42,7 @@ AreWords (p ∷ ps) = IsWord p.code × AreWords ps
 -- a repository of the first form has one annotated repository
 abbrev pub AnnotatedIsUnique : Type 0
 AnnotatedIsUnique = (r a : Linked) (form : IsFirstForm r) → AreWords form.body.positions → (n : ℕ) → IsAnnotated (suc n) r a → a ≡ annotated_by r
+
+-- the facts after any number of rounds are true in every run
+abbrev pub FactsAreTrue : Type 0
+FactsAreTrue = (r : Linked) → IsFirstForm r → (n : ℕ) (F : Facts) → IsFacts (bare r) n F → AreTrue r F

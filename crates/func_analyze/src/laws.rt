@@ -29,3 +29,9 @@ pub fn annotated_is_faithful()
 pub fn annotated_is_unique()
     ensures { AnnotatedIsUnique }
 {}
+
+/// The facts after any number of rounds are true in every run of a repository of the first form.
+pub fn facts_are_true()
+    ensures { FactsAreTrue }
+{
+}
