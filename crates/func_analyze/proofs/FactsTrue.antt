@@ -1,5 +1,5 @@
 -- The facts after any number of rounds are true in every run of a repository of the first form.
-use Rattle.std.proofs.Common.{◌≡◌, inl, ℕ, zero, suc, refl, sym, ◌∙◌, ap, subst, Bool, true, false, nat_eq, ◌==◌, Option, Some, None, List, [], ◌∷◌, ◌++◌, map, slice_get, length, cond, replicate, arith}
+use Rattle.std.proofs.Common.{◌≡◌, inl, ℕ, zero, suc, refl, sym, ◌∙◌, ap, subst, Bool, true, false, nat_eq, ◌==◌, Option, Some, None, List, [], ◌∷◌, ◌++◌, slice_get, length, cond}
 use Rattle.std.specs.Cmp.Lexicographic.{pointwise}
 use Rattle.hack_values.specs.declared.cell.Cell.{Cell}
 use Rattle.hack_values.specs.declared.cell.Cell.TheVariants as cells
@@ -19,20 +19,20 @@ use Rattle.hhbc_repo.specs.declared.code.Imm.{Imm}
 use Rattle.hhbc_repo.specs.declared.body.Body.{Body}
 use Rattle.hhbc_repo.specs.declared.body.Position.{Position}
 use Rattle.hhbc_repo.specs.Linked.{Linked}
-use Rattle.hhbc_repo.specs.Bodies.{built_in_tree, body_at, code_at, tree_of, properties_of, asserts_at}
+use Rattle.hhbc_repo.specs.Bodies.{built_in_tree, body_at, code_at, properties_of, asserts_at}
 use Rattle.hhbc_repo.specs.Bare.{bare, bare_body}
 use Rattle.hhbc_repo.specs.Codes.{local_of}
-use Rattle.hhbc_repo.specs.Form.{FitPositions, FitsPosition, IsFirstBody, IsFirstForm}
-use Rattle.hhbc_repo.specs.Outcome.{Outcome, WrongCount}
-use Rattle.hhbc_repo.specs.Machine.{World, Frame, Turn, Goes, Calls, Returns, Raises, Ends, End, Fails, Sticks, exception, with_cell, read_slot, name_or_none, perform, perform_code, turn_in, turn}
+use Rattle.hhbc_repo.specs.Form.{IsFirstBody, IsFirstForm}
+use Rattle.hhbc_repo.specs.Outcome.{WrongCount}
+use Rattle.hhbc_repo.specs.Machine.{World, Frame, Turn, Goes, Calls, Returns, Raises, Ends, Fails, Sticks, exception, with_cell, read_slot, name_or_none, perform, perform_code, turn_in, turn}
 use Rattle.hhbc_repo.specs.Steps.{Config, Running, Ended, finish, next}
-use Rattle.hhbc_repo.specs.Run.{test, asserts_in, asserts_of, tested, advance, after, entered, no_world, start_in, start, state_after}
-use Rattle.hhbc_repo.specs.Truth.{Facts, HoldIn, ReturnsIn, TrueOf, AreTrue, each, AreArguments}
+use Rattle.hhbc_repo.specs.Run.{test, asserts_in, asserts_of, tested, advance, after, entered, no_world, start_in, start}
+use Rattle.hhbc_repo.specs.Truth.{Facts, HoldIn, TrueOf, AreTrue, each}
 use Rattle.hhbc_repo.proofs.FirstForm.{only, first_is, built_in_transitive}
 use Rattle.hhbc_repo.proofs.Steady.{only_at, uncaught_here}
 use Rattle.hhbc_repo.proofs.Walking.{fits_at, asserts_none}
-use Rattle.func_analyze.specs.Solution.{Table, IsSolution, IsLeast}
-use Rattle.func_analyze.specs.Rounds.{top, IsReturned, IsHeld, AreLeast, IsRound, IsFacts}
+use Rattle.func_analyze.specs.Solution.{Table, IsSolution}
+use Rattle.func_analyze.specs.Rounds.{IsFacts}
 use Rattle.func_analyze.specs.Laws.{FactsAreTrue}
 use Rattle.func_analyze.proofs.Sound.{Sits, Sound, sound_after, sound_start}
 use Rattle.func_analyze.proofs.ChainAnnotated.{chain_is_least}
@@ -107,14 +107,14 @@ module _ (b : Body) (form : IsFirstBody b) where
   raised_finish f w (Raises x v) z e c =
       let h : v.heap ≡ exception 3 c.0 ∷ [] = c.1 ∙ ap (λ (heap : Heap). heap ++ exception 3 c.0 ∷ []) e in
       rw (uncaught_here (bare_body b) f x z form.regions)
-        (λ n o i. one_raised c.0 n o (subst (λ (heap : Heap). slice_get heap n ≡ Some o) h i))
+      (λ n o i. one_raised c.0 n o (subst (λ (heap : Heap). slice_get heap n ≡ Some o) h i))
   raised_finish f w (Ends (Fails name) v) z e c = none_raised v.heap (ap (λ (u : World). u.heap) c ∙ e)
   raised_finish f w (Ends (Sticks why) v) z e c = none_raised v.heap (ap (λ (u : World). u.heap) c ∙ e)
 
   raised_next : (T : Table) (c : Config) → Sound T c → Raised c → Raised (advance (only b) false c)
   raised_next T (Running f fs w) h e =
       subst (λ (fs : List Frame). Raised (advance (only b) false (Running f fs w))) (sym h.0)
-        (raised_finish f w (turn (only (bare_body b)) f w) h.1.body e (clean_turn (body_at (only (bare_body b)) f.body) f w))
+      (raised_finish f w (turn (only (bare_body b)) f w) h.1.body e (clean_turn (body_at (only (bare_body b)) f.body) f w))
   raised_next T (Ended o w) h e = e
 
   raised_counted : (t : Bool) (args : List Cell) → Raised (cond t (Running (entered 0 b args) [] no_world) (Ended WrongCount no_world))
@@ -141,7 +141,7 @@ module _ (b : Body) (form : IsFirstBody b) where
     advance_plain : (asserted : Bool) (c : Config) → Sound T c → advance (only b) asserted c ≡ advance (only b) false c
     advance_plain true (Running f fs w) h =
         let none : asserts_of (only b) f ≡ [] =
-          ap (λ (o : Option Body). asserts_in o f.position) (only_at b f.body h.1.body) ∙ no_asserts f.position (slice_get b.positions f.position) refl in
+        ap (λ (o : Option Body). asserts_in o f.position) (only_at b f.body h.1.body) ∙ no_asserts f.position (slice_get b.positions f.position) refl in
         ap (λ (xs : List Assert). tested (test built_in_tree w.heap f xs) f w (next (only (bare_body b)) (Running f fs w))) none
     advance_plain false (Running f fs w) h = refl
     advance_plain true (Ended o w) h = refl
@@ -160,7 +160,7 @@ record Say (b : Body) (F : Facts) : Type 0 where
   pub under : Facts
   pub solves : IsSolution (only (bare_body b)) under 0 table
   pub returns : (t : HType) → slice_get F.returns 0 ≡ Some t → (f : Frame) (w : World) → Sits table f w.heap
-    → (c : Cell) (v : World) → turn (only (bare_body b)) f w ≡ Returns c v → cell_in built_in_tree v.heap c t ≡ true
+      → (c : Cell) (v : World) → turn (only (bare_body b)) f w ≡ Returns c v → cell_in built_in_tree v.heap c t ≡ true
 
 each_at : (ts : List HType) (n : ℕ) (t : HType) → slice_get (each ts) n ≡ Some (Some t) → slice_get ts n ≡ Some t
 each_at [] n t e = absurd (cc)
@@ -176,34 +176,35 @@ holds_raised b F heap say raised n o e i c f q g t k =
     let x = raised n o e in
     let y = only_message c i x.message (subst (λ (ps : List Cell). slice_get ps i ≡ Some c) x.props f) in
     let p : slice_get (properties_of (only b) 3) 0 ≡ Some q =
-      subst (λ n. slice_get (properties_of (only b) n) 0 ≡ Some q) x.class (subst (λ n. slice_get (properties_of (only b) o.class) n ≡ Some q) y.0 g) in
+    subst (λ n. slice_get (properties_of (only b) n) 0 ≡ Some q) x.class (subst (λ n. slice_get (properties_of (only b) o.class) n ≡ Some q) y.0 g) in
     let z : 0 ≡ q = cc in
     let m = each_at F.props 0 t (subst (λ n. slice_get (each F.props) n ≡ Some (Some t)) (sym z) k) in
     subst (λ (c : Cell). cell_in built_in_tree heap c t ≡ true) (sym y.1) (say.message t m heap x.message)
 
 true_of : (b : Body) (F : Facts) (say : Say b F) (c : Config) → Sound say.table c → Raised c → TrueOf (only b) F c
-true_of b F say (Running f fs w) h e =
-    (holds_raised b F w.heap say (none_raised w.heap e),
-      λ c v i t k. say.returns t (each_at F.returns 0 t (subst (λ n. slice_get (each F.returns) n ≡ Some (Some t)) h.1.body k)) f w h.1 c v i)
+true_of b F say (Running f fs w) h e = (
+  holds_raised b F w.heap say (none_raised w.heap e),
+  λ c v i t k. say.returns t (each_at F.returns 0 t (subst (λ n. slice_get (each F.returns) n ≡ Some (Some t)) h.1.body k)) f w h.1 c v i,
+)
 true_of b F say (Ended o w) h e = holds_raised b F w.heap say e
 
 all_true : (b : Body) (form : IsFirstBody b) (F : Facts) → Say b F → AreTrue (only b) F
 all_true b form F say entry args asserted n legal =
     let s = sound_start b form.regions say.under say.table say.solves entry args in
     subst (λ (c : Config). TrueOf (only b) F c) (sym (after_plain b form say.under say.table say.solves asserted (start (only b) entry args) s n))
-      (true_of b F say (after (only b) false (start (only b) entry args) n)
-        (sound_after b form.regions say.under say.table say.solves (start (only b) entry args) s n)
-        (raised_after b form say.under say.table say.solves (start (only b) entry args) s (raised_start b form entry args) n))
+    (true_of b F say (after (only b) false (start (only b) entry args) n)
+    (sound_after b form.regions say.under say.table say.solves (start (only b) entry args) s n)
+    (raised_after b form say.under say.table say.solves (start (only b) entry args) s (raised_start b form entry args) n))
 
 says : (b : Body) (form : IsFirstForm (only b)) (first : IsFirstBody b) (n : ℕ) (F : Facts) → IsFacts (only (bare_body b)) n F → Say b F
 says b form first zero F w = record {
   message = λ t e heap s. let k : slice_get (cell ∷ []) 0 ≡ Some t = subst (λ (F : Facts). slice_get F.props 0 ≡ Some t) w e in
-    let j : cell ≡ t = cc in subst (λ (t : HType). cell_in built_in_tree heap (cells.Str s) t ≡ true) j refl;
+      let j : cell ≡ t = cc in subst (λ (t : HType). cell_in built_in_tree heap (cells.Str s) t ≡ true) j refl;
   table = _;
   under = F;
   solves = (chain_is_least (only b) form F).solution;
   returns = λ t e f v h c x i. let k : slice_get (cell ∷ []) 0 ≡ Some t = subst (λ (F : Facts). slice_get F.returns 0 ≡ Some t) w e in
-    let j : cell ≡ t = cc in subst (λ (t : HType). cell_in built_in_tree x.heap c t ≡ true) j (cell_in-cell built_in_tree x.heap c);
+      let j : cell ≡ t = cc in subst (λ (t : HType). cell_in built_in_tree x.heap c t ≡ true) j (cell_in-cell built_in_tree x.heap c);
 }
 says b form first (suc n) F w =
     let T = one_of w.2.tables w.2.least.count in
@@ -220,6 +221,6 @@ pub facts_are_true : FactsAreTrue
 facts_are_true r form n F w =
     let e = first_is r form in
     subst (λ (r : Linked). AreTrue r F) (sym e)
-      (all_true form.body form.first F
-        (says form.body (record { body = form.body; functions = refl; classes = refl; first = form.first }) form.first n F
-          (subst (λ (r : Linked). IsFacts (bare r) n F) e w)))
+    (all_true form.body form.first F
+    (says form.body (record { body = form.body; functions = refl; classes = refl; first = form.first }) form.first n F
+    (subst (λ (r : Linked). IsFacts (bare r) n F) e w)))

@@ -1,11 +1,6 @@
 //! Laws of the definitions, each the contract of a function that does nothing.
 
-ghost use Rattle.func_analyze.specs.Laws.{
-  AnnotatedIsFaithful,
-  AnnotatedIsUnique,
-  ChainAnnotates,
-  ChainIsLeast,
-};
+ghost use Rattle.func_analyze.specs.Laws.{AnnotatedIsFaithful, AnnotatedIsUnique, ChainAnnotates, ChainIsLeast, FactsAreTrue};
 
 /// The states along a body without jumps, each made from the one before it, are its least solution.
 pub fn chain_is_least()
@@ -33,5 +28,4 @@ pub fn annotated_is_unique()
 /// The facts after any number of rounds are true in every run of a repository of the first form.
 pub fn facts_are_true()
     ensures { FactsAreTrue }
-{
-}
+{}
