@@ -1,17 +1,26 @@
 //! Types along the codes of a text of the first form, and the repository that states them.
 
+ghost use Rattle.std.specs.Prelude.{◌≡◌, ◌<◌, ◌^◌, ◌++◌, [], ◌∷◌, map, reverse, length, replicate, slice_get, slice_set, IfOk, OnOk, Some};
+ghost use Rattle.type_lattice.specs.Types as types;
+ghost use Rattle.type_lattice.specs.Never.{no_ints, no_strs, no_objs, is_never, all_alive};
+ghost use Rattle.type_lattice.specs.Whole.{is_whole};
+ghost use Rattle.abstract_step.specs.State as states;
+ghost use Rattle.func_analyze.specs.Annotated as annotated;
+ghost use Rattle.func_analyze.specs.Chain as along;
+ghost use Rattle.hhbbc_top.specs.Forms.{code_of, position_of, plain, repo_of, body_of, state_of, if_reached};
+
 use crate::form::{Main, Step};
 use hack_values::{Cell, NoMemory, Seq, Text};
 use hhbc_ops::Op;
 use hhbc_repo::{Assert, Body, Code, Imm, Instr, Position, Repo};
 use std::alloc::Global;
-use type_lattice::{HType, le, of_literal};
+use type_lattice::{HType, IntPart, ObjPart, StrPart, le, of_literal};
 
 /// The types of the locals, and of the slots of the stack with the top last.
 #[derive(Drop)]
 pub struct Types {
-    locals: Vec<HType>,
-    stack: Vec<HType>,
+    pub locals: Vec<HType>,
+    pub stack: Vec<HType>,
 }
 
 const UNINIT: HType = HType {
@@ -19,145 +28,308 @@ const UNINIT: HType = HType {
     ..HType::NEVER
 };
 
-impl Types {
-    /// The types that enter a function without parameters.
-    fn entry(alloc: Global, locals: usize) -> Result<Types, NoMemory> {
-        let mut types = Types {
-            locals: Vec::new(alloc),
-            stack: Vec::new(alloc),
-        };
-        for _local in 0..locals {
-            types.locals.push(UNINIT)?;
+fn lacks_ints(part: IntPart) -> bool
+    ensures { result ≡ no_ints part }
+{
+    matches!(part, IntPart::No)
+}
+
+fn lacks_strs(part: StrPart) -> bool
+    ensures { result ≡ no_strs part }
+{
+    matches!(part, StrPart::No)
+}
+
+fn lacks_objs(part: ObjPart) -> bool
+    ensures { result ≡ no_objs part }
+{
+    matches!(part, ObjPart::No)
+}
+
+/// Whether the type has no part.
+fn has_no_part(t: &HType) -> bool
+    ensures { result ≡ is_never t.now }
+{
+    !t.uninit
+        && !t.null
+        && !t.no
+        && !t.yes
+        && lacks_ints(t.int)
+        && lacks_strs(t.str)
+        && lacks_objs(t.obj)
+        && t.vec.is_none()
+        && t.dict.is_none()
+        && t.keyset.is_none()
+}
+
+/// Whether each of the types has members.
+fn are_alive(ts: &[HType]) -> bool
+    ensures { result ≡ all_alive ts.now }
+{
+    for t in ts {
+        if has_no_part(t) {
+            return false;
         }
-        Ok(types)
     }
+    true
+}
 
-    fn top(&self) -> Option<HType> {
-        self.stack.last().copied()
-    }
+#[tactic(auto, using(crate::proofs::Stacks::all_alive_reverse))]
+fn are_alive_from_top(ts: &[HType]) -> bool
+    ensures { result ≡ all_alive (reverse ts.now) }
+{
+    are_alive(ts)
+}
 
-    fn local(&self, number: u8) -> Option<HType> {
-        self.locals.get(number as usize).copied()
-    }
+/// The topmost of the types.
+fn top_of(stack: &[HType]) -> Option<HType>
+    ensures { result ≡ slice_get (reverse stack.now) 0 }
+{
+    stack.last().copied()
+}
 
-    fn push(&mut self, t: HType) -> Result<(), NoMemory> {
-        self.stack.push(t)?;
-        Ok(())
-    }
+fn type_at(ts: &[HType], place: u8) -> Option<HType>
+    ensures { result ≡ slice_get ts.now place }
+{
+    ts.get(place as usize).copied()
+}
 
-    /// What a code makes of the types; false where nothing follows it.
-    fn pass(&mut self, step: Step) -> Result<bool, NoMemory> {
-        match step {
-            Step::Null => self.push(of_literal(&Cell::Null))?,
-            Step::True => self.push(of_literal(&Cell::Bool(true)))?,
-            Step::False => self.push(of_literal(&Cell::Bool(false)))?,
-            Step::Int(number) => self.push(of_literal(&Cell::Int(number)))?,
-            Step::PopC => {
-                let _ = self.stack.pop();
+fn push_type(stack: &mut Vec<HType>, t: HType) -> Result<(), NoMemory>
+    ensures { OnOk result (reverse stack.new.items ≡ t ∷ reverse stack.old.items) }
+{
+    stack.push(t)?;
+    Ok(())
+}
+
+fn initialised(t: HType) -> HType
+    ensures { result ≡ types.initialised t }
+{
+    HType { uninit: false, ..t }
+}
+
+/// The types that enter a function without parameters.
+fn entry(alloc: Global, locals: usize) -> Result<Types, NoMemory>
+    ensures { IfOk result (λ t. state_of t ≡ record { locals = replicate locals types.uninit; stack = []; iters = [] }) }
+{
+    Ok(Types {
+        locals: vec![in alloc; UNINIT; locals]?,
+        stack: Vec::new(alloc),
+    })
+}
+
+/// What a code makes of the types; false where nothing follows it.
+fn pass(ts: &mut Types, step: Step) -> Result<bool, NoMemory>
+    ensures { IfOk result (λ goes. if_reached goes (state_of ts.new) ≡ (along.row_of (code_of step) (state_of ts.old)).behind) }
+{
+    match step {
+        Step::Null => {
+            push_type(&mut ts.stack, of_literal(&Cell::Null))?;
+            Ok(true)
+        }
+        Step::True => {
+            push_type(&mut ts.stack, of_literal(&Cell::Bool(true)))?;
+            Ok(true)
+        }
+        Step::False => {
+            push_type(&mut ts.stack, of_literal(&Cell::Bool(false)))?;
+            Ok(true)
+        }
+        Step::Int(number) => {
+            push_type(&mut ts.stack, of_literal(&Cell::Int(number)))?;
+            Ok(true)
+        }
+        Step::PopC => Ok(ts.stack.pop().is_some()),
+        Step::SetL(number) => {
+            let Some(top) = top_of(&ts.stack) else {
+                return Ok(false);
+            };
+            let place = number as usize;
+            if place < ts.locals.len() {
+                ts.locals[place] = top;
             }
-            Step::SetL(number) => self.set(number),
-            Step::CGetL(number) => return self.get(number),
-            Step::RetC => return Ok(false),
+            Ok(true)
         }
-        Ok(true)
-    }
-
-    /// The local becomes the top.
-    fn set(&mut self, number: u8) {
-        if let Some(top) = self.top() {
-            if (number as usize) < self.locals.len() {
-                self.locals[number as usize] = top;
-            }
+        Step::CGetL(number) => {
+            let Some(found) = type_at(&ts.locals, number) else {
+                return Ok(false);
+            };
+            push_type(&mut ts.stack, initialised(found))?;
+            Ok(true)
         }
-    }
-
-    /// Pushes the local; false where it can only be unset.
-    fn get(&mut self, number: u8) -> Result<bool, NoMemory> {
-        let Some(found) = self.local(number) else {
-            return Ok(false);
-        };
-        let found = HType {
-            uninit: false,
-            ..found
-        };
-        self.push(found)?;
-        Ok(found != HType::NEVER)
+        Step::RetC => Ok(false),
     }
 }
 
-/// The assertion of a type, unless every cell is of it.
-fn put_claim(asserts: &mut Seq<Assert>, make: Assert, t: &HType) -> Result<(), NoMemory> {
-    if le(&HType::CELL, t) {
+fn are_all_alive(ts: &Types) -> bool
+    ensures { result ≡ states.is_alive (state_of ts.now) }
+{
+    are_alive(&ts.locals) && are_alive_from_top(&ts.stack)
+}
+
+/// Goes on behind a code, from types that are reached or not.
+fn advance(ts: &mut Types, reached: bool, step: Step) -> Result<bool, NoMemory>
+    ensures { IfOk result (λ goes. if_reached goes (state_of ts.new) ≡ along.state_behind (code_of step) (if_reached reached (state_of ts.old))) }
+{
+    if !reached {
+        return Ok(false);
+    }
+    let goes = pass(ts, step)?;
+    if goes {
+        Ok(are_all_alive(ts))
+    } else {
+        Ok(false)
+    }
+}
+
+/// Adds the assertion of a local's type, unless every cell is of it.
+fn claim_local(claims: &mut Seq<Assert>, local: u8, t: Option<HType>) -> Result<(), NoMemory>
+    ensures { OnOk result (claims.new ≡ claims.old ++ annotated.claim (λ u. Assert.Local local u) t) }
+{
+    let Some(t) = t else {
+        return Ok(());
+    };
+    if holds_all_cells(&t) {
         Ok(())
     } else {
-        asserts.push(make)
+        claims.push(Assert::Local(local, t))
+    }
+}
+
+/// Adds the assertion of the type of the topmost slot, unless every cell is of it.
+fn claim_top(claims: &mut Seq<Assert>, t: Option<HType>) -> Result<(), NoMemory>
+    ensures { OnOk result (claims.new ≡ claims.old ++ annotated.claim (λ u. Assert.Stack 0 u) t) }
+{
+    let Some(t) = t else {
+        return Ok(());
+    };
+    if holds_all_cells(&t) {
+        Ok(())
+    } else {
+        claims.push(Assert::Stack(0, t))
+    }
+}
+
+/// Whether every cell is of the type.
+fn holds_all_cells(t: &HType) -> bool
+    ensures { result ≡ is_whole t.now }
+{
+    le(&HType::CELL, t)
+}
+
+/// The assertions before a code that is reached.
+#[tactic(auto, using(crate::proofs::Stacks::append_nil))]
+fn claims_of(alloc: Global, ts: &Types, step: Step) -> Result<Seq<Assert>, NoMemory>
+    ensures { IfOk result (λ claims. claims ≡ annotated.claims (code_of step) (Some (state_of ts.now))) }
+{
+    let mut claims = Seq::new(alloc);
+    match step {
+        Step::CGetL(local) => {
+            claim_local(&mut claims, local, type_at(&ts.locals, local))?;
+            Ok(claims)
+        }
+        Step::PopC | Step::SetL(_) | Step::RetC => {
+            claim_top(&mut claims, top_of(&ts.stack))?;
+            Ok(claims)
+        }
+        Step::Null | Step::True | Step::False | Step::Int(_) => Ok(claims),
     }
 }
 
 /// The assertions before a code.
-fn claims(alloc: Global, step: Step, types: &Types) -> Result<Seq<Assert>, NoMemory> {
-    let mut asserts = Seq::new(alloc);
-    match step {
-        Step::CGetL(number) => {
-            if let Some(t) = types.local(number) {
-                put_claim(&mut asserts, Assert::Local(number, t), &t)?;
-            }
-        }
-        Step::PopC | Step::SetL(_) | Step::RetC => {
-            if let Some(t) = types.top() {
-                put_claim(&mut asserts, Assert::Stack(0, t), &t)?;
-            }
-        }
-        Step::Null | Step::True | Step::False | Step::Int(_) => {}
+fn claims_at(alloc: Global, ts: &Types, reached: bool, step: Step) -> Result<Seq<Assert>, NoMemory>
+    ensures { IfOk result (λ claims. claims ≡ annotated.claims (code_of step) (if_reached reached (state_of ts.now))) }
+{
+    if reached {
+        claims_of(alloc, ts, step)
+    } else {
+        Ok(Seq::new(alloc))
     }
-    Ok(asserts)
 }
 
-fn instr(alloc: Global, op: Op, operand: Option<Imm>) -> Result<Code, NoMemory> {
+fn instr(alloc: Global, op: Op) -> Code
+    ensures { result ≡ plain op [] }
+{
+    Code::Plain(Instr {
+        op,
+        imms: Seq::new(alloc),
+    })
+}
+
+fn instr_with(alloc: Global, op: Op, operand: Imm) -> Result<Code, NoMemory>
+    ensures { IfOk result (λ code. code ≡ plain op (operand ∷ [])) }
+{
     let mut imms = Seq::new(alloc);
-    if let Some(operand) = operand {
-        imms.push(operand)?;
-    }
+    imms.push(operand)?;
     Ok(Code::Plain(Instr { op, imms }))
 }
 
-fn code(alloc: Global, step: Step) -> Result<Code, NoMemory> {
+fn code(alloc: Global, step: Step) -> Result<Code, NoMemory>
+    ensures { IfOk result (λ code. code ≡ code_of step) }
+{
     match step {
-        Step::Null => instr(alloc, Op::Null, None),
-        Step::True => instr(alloc, Op::True, None),
-        Step::False => instr(alloc, Op::False, None),
-        Step::Int(number) => instr(alloc, Op::Int, Some(Imm::Int(number))),
-        Step::PopC => instr(alloc, Op::PopC, None),
-        Step::SetL(number) => instr(alloc, Op::SetL, Some(Imm::Local(number))),
-        Step::CGetL(number) => instr(alloc, Op::CGetL, Some(Imm::Local(number))),
-        Step::RetC => instr(alloc, Op::RetC, None),
+        Step::Null => Ok(instr(alloc, Op::Null)),
+        Step::True => Ok(instr(alloc, Op::True)),
+        Step::False => Ok(instr(alloc, Op::False)),
+        Step::Int(number) => instr_with(alloc, Op::Int, Imm::Int(number)),
+        Step::PopC => Ok(instr(alloc, Op::PopC)),
+        Step::SetL(local) => instr_with(alloc, Op::SetL, Imm::Local(local)),
+        Step::CGetL(local) => instr_with(alloc, Op::CGetL, Imm::Local(local)),
+        Step::RetC => Ok(instr(alloc, Op::RetC)),
     }
 }
 
-/// The repository of one function, with the types along it stated.
-pub fn annotated(alloc: Global, main: Main) -> Result<Repo, NoMemory> {
-    let Main { locals, codes } = main;
-    let mut types = Types::entry(alloc, locals.as_slice().len())?;
-    let mut positions = Seq::new(alloc);
-    let mut reached = true;
-    let mut returned = HType::NEVER;
-    for step in codes.as_slice() {
-        let asserts = if reached {
-            claims(alloc, *step, &types)?
-        } else {
-            Seq::new(alloc)
-        };
-        positions.push(Position {
-            asserts,
-            code: code(alloc, *step)?,
-        })?;
-        if reached {
-            if let Step::RetC = *step {
-                returned = types.top().unwrap_or(HType::NEVER);
+/// A code with the assertions before it.
+fn position(alloc: Global, ts: &Types, reached: bool, step: Step) -> Result<Position, NoMemory>
+    ensures { IfOk result (λ p. p ≡ record { asserts = annotated.claims (code_of step) (if_reached reached (state_of ts.now)); code = code_of step }) }
+{
+    let asserts = claims_at(alloc, ts, reached, step)?;
+    let code = code(alloc, step)?;
+    Ok(Position { asserts, code })
+}
+
+/// The type that a code returns.
+fn returned(ts: &Types, reached: bool, step: Step) -> HType
+    ensures { result ≡ along.returned_by (code_of step) (if_reached reached (state_of ts.now)) }
+{
+    match step {
+        Step::RetC => {
+            if reached {
+                top_of(&ts.stack).unwrap_or(HType::NEVER)
+            } else {
+                HType::NEVER
             }
-            reached = types.pass(*step)?;
         }
+        _ => HType::NEVER,
     }
+}
+
+/// The positions with their assertions, from the types at the first, and the type that the last code returns.
+fn positions(
+    alloc: Global,
+    codes: &[Step],
+    mut ts: Types,
+) -> Result<(Seq<Position>, HType), NoMemory>
+    ensures { IfOk result (λ found. (found.0 ≡ annotated.with_claims (map position_of codes.now) (along.chain (map position_of codes.now) (Some (state_of ts))))
+        × (found.1 ≡ along.returned_at_end (map position_of codes.now) (Some (state_of ts)))) }
+{
+    let mut done = Seq::new(alloc);
+    let mut reached = true;
+    let mut last = HType::NEVER;
+    for step in codes {
+        done.push(position(alloc, &ts, reached, *step)?)?;
+        last = returned(&ts, reached, *step);
+        reached = advance(&mut ts, reached, *step)?;
+    }
+    Ok((done, last))
+}
+
+/// The repository of one function, with the types along it stated.
+pub fn annotated(alloc: Global, main: Main) -> Result<Repo, NoMemory>
+    ensures { IfOk result (λ repo. repo ≡ along.annotated_by (repo_of main)) }
+{
+    let Main { locals, codes } = main;
+    let types = entry(alloc, locals.as_slice().len())?;
+    let (positions, returned) = positions(alloc, codes.as_slice(), types)?;
     let mut functions = Seq::new(alloc);
     functions.push(Body {
         name: Text::from_bytes(alloc, b"main")?,

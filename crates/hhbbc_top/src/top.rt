@@ -1,6 +1,6 @@
 //! The top call: words and bytes in, a status and bytes out.
 
-ghost use Rattle.std.specs.Prelude.{◌≡◌, ◌↔◌, IsTrue};
+ghost use Rattle.std.specs.Prelude.{◌≡◌, ◌≤◌, ◌↔◌, IsTrue, length};
 ghost use Rattle.hhbbc_top.specs.Answer as answer;
 
 use crate::annotation::annotated;
@@ -60,7 +60,9 @@ fn analyze<S: Source>(alloc: Global, source: &mut S) -> Result<Text, Status> {
 }
 
 /// The annotated text of a text of the first form.
-fn answer_of(alloc: Global, text: &[u8]) -> Result<Text, Status> {
+fn answer_of(alloc: Global, text: &[u8]) -> Result<Text, Status>
+    requires { length text.now ≤ LIMIT }
+{
     match read(alloc, text) {
         Ok(main) => written(alloc, main),
         Err(ReadFault::OtherForm) => Err(Status::NotYet),
