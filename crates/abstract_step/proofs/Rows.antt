@@ -23,6 +23,7 @@ use Rattle.hhbc_repo.specs.Truth.{Facts}
 use Rattle.hhbc_repo.specs.Machine.{World, Frame, Turn, Goes, Calls, Returns, Raises, Ends, with_cell, read_slot, perform, perform_code}
 use Rattle.abstract_step.specs.State.{State, AllLe, StateLe}
 use Rattle.abstract_step.specs.Flow.{Row, nothing, with_type, with_local_type, op_row, row}
+pub use Rattle.abstract_step.specs.Laws.{Lies, LiesBehind, Fits}
 use Rattle.abstract_step.proofs.StateOrder.{BothAt, AllLe-get, AllLe-set, never-le, initialised-le, AreMembers-get, AreMembers-set}
 
 -- codes of constants and locals ask for no other body and no facts
@@ -113,23 +114,6 @@ module _ (tree : Tree) where
   pub row-le : (r : Linked) (F : Facts) (n : ℕ) (c : Code) (s t : State) → StateLe tree s t → RowLe tree (row r F n c s) (row r F n c t)
   row-le r F n (kinds.Plain i) s t h = op_row-le r F n i.op i.imms s t h
   row-le r F n (kinds.Member m) s t h = nothing-le nothing
-
--- the frame's slots are of the types of the state
-pub record Lies (tree : Tree) (f : Frame) (heap : Heap) (s : State) : Type 0 where
-  pub locals : AreMembers tree heap f.locals s.locals
-  pub stack : AreMembers tree heap f.stack s.stack
-
-abbrev pub LiesBehind : Tree → Frame → Heap → Option State → Type 0
-LiesBehind tree f heap None = ⊥
-LiesBehind tree f heap (Some s) = Lies tree f heap s
-
--- what a turn of the frame does is in the row: where it goes on, it goes to the position behind, and the world stays
-abbrev pub Fits : Tree → Frame → World → Row → Turn → Type 0
-Fits tree f w o (Goes g v) = LiesBehind tree g w.heap o.behind × (g.position ≡ suc f.position) × (g.body ≡ f.body) × (v ≡ w)
-Fits tree f w o (Calls g v) = ⊥
-Fits tree f w o (Returns c v) = (cell_in tree w.heap c o.returned ≡ true) × (v ≡ w)
-Fits tree f w o (Raises e v) = Unit {0}
-Fits tree f w o (Ends e v) = Unit {0}
 
 module _ (tree : Tree) (f : Frame) (w : World) where
   fits_cell : (ss : List Slot) (ts : List HType) (go : Cell → List Slot → Turn) (to : HType → List HType → Row)
