@@ -1,8 +1,7 @@
 -- The rows of all codes: what they don't do, that lower states have lower rows, and that they hold what a turn does.
-use Rattle.std.proofs.Common.{◌≡◌, ℕ, ℤ, zero, suc, refl, Bool, true, false, Option, Some, None, List, [], ◌∷◌, slice_get, slice_set}
+use Rattle.std.proofs.Common.{◌≡◌, ℕ, suc, refl, true, Option, Some, None, List, [], ◌∷◌, slice_get}
 use Rattle.std.proofs.lemmas.Bool.Decides.{Decides-int_eq}
 use Rattle.hack_values.specs.declared.cell.Cell.{Cell}
-use Rattle.hack_values.specs.declared.cell.Cell.TheVariants as cells
 use Rattle.hack_values.specs.declared.cell.Slot.{Slot}
 use Rattle.hack_values.specs.declared.cell.Slot.TheVariants as slots
 use Rattle.hhbc_ops.specs.declared.op.Op.{Op}
@@ -23,7 +22,7 @@ use Rattle.hhbc_repo.specs.Codes.{local_of, int_of}
 use Rattle.hhbc_repo.specs.Truth.{Facts}
 use Rattle.hhbc_repo.specs.Machine.{World, Frame, Turn, Goes, Calls, Returns, Raises, Ends, with_cell, read_slot, perform, perform_code}
 use Rattle.abstract_step.specs.State.{State, AllLe, StateLe}
-use Rattle.abstract_step.specs.Flow.{Row, Effect, nothing, with_type, with_local_type, op_row, row}
+use Rattle.abstract_step.specs.Flow.{Row, nothing, with_type, with_local_type, op_row, row}
 use Rattle.abstract_step.proofs.StateOrder.{BothAt, AllLe-get, AllLe-set, never-le, initialised-le, AreMembers-get, AreMembers-set}
 
 -- codes of constants and locals ask for no other body and no facts
@@ -104,10 +103,10 @@ module _ (tree : Tree) where
       with_type-le s.stack t.stack _ _ h.stack (λ a tail b more e k. on_both _ _ (record { locals = h.locals; stack = k; iters = h.iters }))
   op_row-le r F n ops.SetL imms s t h =
       with_type-le s.stack t.stack _ _ h.stack
-        (λ a tail b more e k. on_both _ _ (record { locals = AllLe-set tree _ _ (local_of imms) _ _ h.locals e; stack = h.stack; iters = h.iters }))
+      (λ a tail b more e k. on_both _ _ (record { locals = AllLe-set tree _ _ (local_of imms) _ _ h.locals e; stack = h.stack; iters = h.iters }))
   op_row-le r F n ops.CGetL imms s t h =
       with_local_type-le _ _ _ _ (AllLe-get tree s.locals t.locals (local_of imms) h.locals)
-        (λ a b e. on_both _ _ (record { locals = h.locals; stack = (e, h.stack); iters = h.iters }))
+      (λ a b e. on_both _ _ (record { locals = h.locals; stack = (e, h.stack); iters = h.iters }))
   op_row-le r F n ops.RetC imms s t h =
       with_type-le s.stack t.stack _ _ h.stack (λ a tail b more e k. record { behind = tt; returned = e })
 
@@ -136,7 +135,7 @@ module _ (tree : Tree) (f : Frame) (w : World) where
   fits_cell : (ss : List Slot) (ts : List HType) (go : Cell → List Slot → Turn) (to : HType → List HType → Row)
       → AreMembers tree w.heap ss ts
       → ((c : Cell) (rest : List Slot) (t : HType) (more : List HType) → cell_in tree w.heap c t ≡ true → AreMembers tree w.heap rest more
-        → Fits tree f w (to t more) (go c rest))
+      → Fits tree f w (to t more) (go c rest))
       → Fits tree f w (with_type ts to) (with_cell ss w go)
   fits_cell [] ts go to h k = tt
   fits_cell (slots.Uninit ∷ rest) ts go to h k = tt
@@ -163,11 +162,11 @@ module _ (tree : Tree) (f : Frame) (w : World) where
       fits_cell f.stack s.stack _ _ h.stack (λ c rest t more m k. (record { locals = h.locals; stack = k }, refl, refl, refl))
   fits_op r F n ops.SetL imms b s h =
       fits_cell f.stack s.stack _ _ h.stack
-        (λ c rest t more m k.
-          (record { locals = AreMembers-set tree w.heap f.locals s.locals (local_of imms) (slots.Cell c) t h.locals m; stack = h.stack }, refl, refl, refl))
+      (λ c rest t more m k.
+      (record { locals = AreMembers-set tree w.heap f.locals s.locals (local_of imms) (slots.Cell c) t h.locals m; stack = h.stack }, refl, refl, refl))
   fits_op r F n ops.CGetL imms b s h =
       fits_local _ _ _ _ _ (AreMembers-get tree w.heap f.locals s.locals (local_of imms) h.locals)
-        (λ c t m. (record { locals = h.locals; stack = (m, h.stack) }, refl, refl, refl))
+      (λ c t m. (record { locals = h.locals; stack = (m, h.stack) }, refl, refl, refl))
   fits_op r F n ops.RetC imms b s h =
       fits_cell f.stack s.stack _ _ h.stack (λ c rest t more m k. (m, refl))
 

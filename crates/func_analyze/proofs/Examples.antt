@@ -1,5 +1,5 @@
 -- Two bodies and their annotations, computed by the definitions.
-use Rattle.std.proofs.Common.{◌≡◌, refl, ℕ, pos, List, [], ◌∷◌, map, Some, None, codes}
+use Rattle.std.proofs.Common.{◌≡◌, refl, pos, List, [], ◌∷◌, map, Some, None, codes}
 use Rattle.hhbc_ops.specs.declared.op.Op.TheVariants as ops
 use Rattle.type_lattice.specs.declared.types.HType.{HType}
 use Rattle.type_lattice.specs.declared.types.IntPart.TheVariants as ints
