@@ -10,3 +10,4 @@ pub mod Grows
 pub mod Following
 pub mod Spelled
 pub mod Proper
+pub mod Pieced

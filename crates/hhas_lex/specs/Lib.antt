@@ -1,5 +1,6 @@
 pub mod Bytes
 pub mod Fronts
+pub mod Pieces
 pub mod Shape
 pub mod Spelling
 pub mod Strings

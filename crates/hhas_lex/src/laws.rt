@@ -1,13 +1,24 @@
 //! Laws of tokens.
 
-ghost use Rattle.std.specs.Prelude.{◌≡◌, ℕ, true, List, [], ◌∷◌, ◌++◌};
+ghost use Rattle.std.specs.Prelude.{◌≡◌, ℕ, true, List, [], ◌∷◌, ◌++◌, drop, Some};
 ghost use Rattle.hhas_lex.specs.Bytes.{is_white};
+ghost use Rattle.hhas_lex.specs.Pieces.{IsString};
+ghost use Rattle.hhas_lex.specs.Shape.{shape};
 ghost use Rattle.hhas_lex.specs.Spelling.{Apart, is_proper, spelling};
+ghost use Rattle.hhas_lex.specs.Strings.{value_of};
 ghost use Rattle.hhas_lex.specs.Tokens.{End, Token, tokens};
+
+use crate::token::TokenKind;
 
 /// What a token's canonical spelling begins is read as that token, and white space is passed over.
 pub fn spelled_tokens_are_read()
     ensures spelled { (t : Token) (rest : List ℕ) → is_proper t ≡ true → Apart t rest → tokens (spelling t ++ rest) ≡ t ∷ tokens rest }
     ensures white { (b : ℕ) (rest : List ℕ) → is_white b ≡ true → tokens (b ∷ rest) ≡ tokens rest }
     ensures end { tokens [] ≡ End ∷ [] }
+{}
+
+/// What spells a string is a quote, pieces and a quote, and its value is theirs.
+pub fn strings_are_their_pieces()
+    ensures pieces { (bytes : List ℕ) → shape bytes ≡ Some TokenKind.Str → IsString bytes (value_of (drop 1 bytes)) }
+    ensures strings { (bytes value : List ℕ) → IsString bytes value → (shape bytes ≡ Some TokenKind.Str) × (value_of (drop 1 bytes) ≡ value) }
 {}
