@@ -21,7 +21,7 @@ is_last (Str s) = false
 is_last (Mark b) = false
 is_last LessEqual = false
 
-followed-last : {A : Type 0} (t : Token) (x : A) (xs : List A) → is_last t ≡ true → followed t x xs ≡ x ∷ []
+pub followed-last : {A : Type 0} (t : Token) (x : A) (xs : List A) → is_last t ≡ true → followed t x xs ≡ x ∷ []
 followed-last End x xs e = refl
 followed-last Bad x xs e = refl
 followed-last (Directive s) x xs e = absurd (cc)
@@ -32,7 +32,7 @@ followed-last (Str s) x xs e = absurd (cc)
 followed-last (Mark b) x xs e = absurd (cc)
 followed-last LessEqual x xs e = absurd (cc)
 
-followed-on : {A : Type 0} (t : Token) (x : A) (xs : List A) → is_last t ≡ false → followed t x xs ≡ x ∷ xs
+pub followed-on : {A : Type 0} (t : Token) (x : A) (xs : List A) → is_last t ≡ false → followed t x xs ≡ x ∷ xs
 followed-on End x xs e = absurd (cc)
 followed-on Bad x xs e = absurd (cc)
 followed-on (Directive s) x xs e = refl
@@ -111,10 +111,10 @@ places-on at bytes e =
 behind-on : {A : Type 0} (x y : A) (xs : List A) → behind (x ∷ y ∷ xs) ≡ y ∷ xs
 behind-on x y xs = refl
 
-tokens-front : (bytes : List ℕ) → front (tokens bytes) ≡ first bytes
+pub tokens-front : (bytes : List ℕ) → front (tokens bytes) ≡ first bytes
 tokens-front bytes = split (is_last (first bytes)) (λ e. ap front (tokens-last bytes e)) (λ e. ap front (tokens-on bytes e))
 
-tokens-behind-on : (bytes : List ℕ) → is_last (first bytes) ≡ false → behind (tokens bytes) ≡ tokens (drop (past_first bytes) bytes)
+pub tokens-behind-on : (bytes : List ℕ) → is_last (first bytes) ≡ false → behind (tokens bytes) ≡ tokens (drop (past_first bytes) bytes)
 tokens-behind-on bytes e =
     let r = drop (past_first bytes) bytes in
     split (is_last (first r))

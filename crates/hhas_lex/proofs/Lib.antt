@@ -8,6 +8,7 @@ pub mod ByteTests
 pub mod Exact
 pub mod Grows
 pub mod Following
+pub mod Ending
 pub mod Spelled
 pub mod Proper
 pub mod Pieced

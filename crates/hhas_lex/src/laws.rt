@@ -1,12 +1,12 @@
 //! Laws of tokens.
 
-ghost use Rattle.std.specs.Prelude.{◌≡◌, ℕ, true, List, [], ◌∷◌, ◌++◌, drop, Some};
+ghost use Rattle.std.specs.Prelude.{◌≡◌, ◌≢◌, ℕ, length, true, List, [], ◌∷◌, ◌++◌, drop, Some};
 ghost use Rattle.hhas_lex.specs.Bytes.{is_white};
 ghost use Rattle.hhas_lex.specs.Pieces.{IsString};
 ghost use Rattle.hhas_lex.specs.Shape.{shape};
 ghost use Rattle.hhas_lex.specs.Spelling.{Apart, is_proper, spelling};
 ghost use Rattle.hhas_lex.specs.Strings.{value_of};
-ghost use Rattle.hhas_lex.specs.Tokens.{End, Token, tokens};
+ghost use Rattle.hhas_lex.specs.Tokens.{Bad, End, Token, behind, front, places, tokens};
 
 use crate::token::TokenKind;
 
@@ -15,6 +15,14 @@ pub fn spelled_tokens_are_read()
     ensures spelled { (t : Token) (rest : List ℕ) → is_proper t ≡ true → Apart t rest → tokens (spelling t ++ rest) ≡ t ∷ tokens rest }
     ensures white { (b : ℕ) (rest : List ℕ) → is_white b ≡ true → tokens (b ∷ rest) ≡ tokens rest }
     ensures end { tokens [] ≡ End ∷ [] }
+{}
+
+/// The end, or the place where no token begins, is the last token and no other is, and each token has its place.
+pub fn tokens_end_once()
+    ensures end { (bytes : List ℕ) → front (tokens bytes) ≡ End → tokens bytes ≡ End ∷ [] }
+    ensures bad { (bytes : List ℕ) → front (tokens bytes) ≡ Bad → tokens bytes ≡ Bad ∷ [] }
+    ensures more { (bytes : List ℕ) → front (tokens bytes) ≢ End → front (tokens bytes) ≢ Bad → tokens bytes ≡ front (tokens bytes) ∷ behind (tokens bytes) }
+    ensures places { (at : ℕ) (bytes : List ℕ) → length (places at bytes) ≡ length (tokens bytes) }
 {}
 
 /// What spells a string is a quote, pieces and a quote, and its value is theirs.
