@@ -10,5 +10,6 @@ pub mod Grows
 pub mod Following
 pub mod Ending
 pub mod Spelled
+pub mod Touching
 pub mod Proper
 pub mod Pieced

@@ -24,7 +24,7 @@ pub record Stands (bytes : List ℕ) (b : ℕ) (xs : List ℕ) : Type 0 where
   pub mode : fold step Plain (bytes ++ xs) ≡ fold step Plain xs
   pub value : value_from Plain (bytes ++ xs) ≡ b ∷ value_from Plain xs
 
-not-true : (a : Bool) → not a ≡ true → a ≡ false
+pub not-true : (a : Bool) → not a ≡ true → a ≡ false
 not-true true h = absurd (cc)
 not-true false h = refl
 

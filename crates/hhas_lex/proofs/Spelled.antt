@@ -90,7 +90,7 @@ own : IsNumeralModel (λ ds. list_all is_digit ds ≡ true) (number_from 0)
 own = numerals_by_fold _ all-digits number_from (record { empty = λ n. refl; more = λ n c cs r. ap (λ z. number_from z cs) (omega arith) })
 
 -- the digits of a number but 0
-record Decimal (ds : List ℕ) (n : ℕ) : Type 0 where
+pub record Decimal (ds : List ℕ) (n : ℕ) : Type 0 where
   pub first : ℕ
   pub more : List ℕ
   pub are : ds ≡ first ∷ more
@@ -105,7 +105,7 @@ decimal-from (b ∷ ds) n a f v =
     let e = both (is_digit b) (list_all is_digit ds) a in
     record { first = b; more = ds; are = refl; low = f; high = (digit-range b e.0).1; digits = e.1; value = sym (number-first b ds) ∙ v }
 
-decimals : (n : ℕ) → 0 < n → n < 2 ^ 64 → Decimal (decimal n) n
+pub decimals : (n : ℕ) → 0 < n → n < 2 ^ 64 → Decimal (decimal n) n
 decimals n p h = decimal-from (decimal n) n (digits_decimal own n h) (first_decimal n p h) (digits_value-decimal own n h)
 
 positive-read : (ds rest : List ℕ) (n : ℕ) → Decimal ds n → n < 2 ^ 63 → Stops is_digit rest → scan (ds ++ rest) ≡ Some (kinds.Integer (pos n), length ds)

@@ -4,7 +4,7 @@ ghost use Rattle.std.specs.Prelude.{◌≡◌, ◌≢◌, ℕ, length, true, Lis
 ghost use Rattle.hhas_lex.specs.Bytes.{is_white};
 ghost use Rattle.hhas_lex.specs.Pieces.{IsString};
 ghost use Rattle.hhas_lex.specs.Shape.{shape};
-ghost use Rattle.hhas_lex.specs.Spelling.{Apart, is_proper, spelling};
+ghost use Rattle.hhas_lex.specs.Spelling.{Apart, is_proper, spelling, touches};
 ghost use Rattle.hhas_lex.specs.Strings.{value_of};
 ghost use Rattle.hhas_lex.specs.Tokens.{Bad, End, Token, behind, front, places, tokens};
 
@@ -15,6 +15,13 @@ pub fn spelled_tokens_are_read()
     ensures spelled { (t : Token) (rest : List ℕ) → is_proper t ≡ true → Apart t rest → tokens (spelling t ++ rest) ≡ t ∷ tokens rest }
     ensures white { (b : ℕ) (rest : List ℕ) → is_white b ≡ true → tokens (b ∷ rest) ≡ tokens rest }
     ensures end { tokens [] ≡ End ∷ [] }
+{}
+
+/// White space, and each token that may touch a token, stand apart from it.
+pub fn neighbours_are_told_apart()
+    ensures white { (t : Token) (b : ℕ) (rest : List ℕ) → is_white b ≡ true → Apart t (b ∷ rest) }
+    ensures touching { (t next : Token) (rest : List ℕ) → is_proper next ≡ true → touches t next ≡ true → Apart t (spelling next ++ rest) }
+    ensures end { (t : Token) → Apart t [] }
 {}
 
 /// The end, or the place where no token begins, is the last token and no other is, and each token has its place.
