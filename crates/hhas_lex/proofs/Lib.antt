@@ -11,5 +11,6 @@ pub mod Following
 pub mod Ending
 pub mod Spelled
 pub mod Touching
+pub mod Spacing
 pub mod Proper
 pub mod Pieced

@@ -1,17 +1,15 @@
 -- Tokens that stand side by side and are told apart.
-use Rattle.std.proofs.Common.{◌≡◌, ℕ, zero, suc, ◌+◌, ◌-◌, ◌<◌, ◌≤◌, ◌^◌, refl, sym, ap, subst, ◌∙◌, Bool, true, false, not, ◌&&◌, ◌||◌, ◌==◌, nat_le, List, [], ◌∷◌, ◌++◌, length, ℤ, pos, negsuc, arith}
-use Rattle.std.specs.List.{list_all, flat_map}
-use Rattle.std.specs.Fmt.{decimal, signed_decimal}
+use Rattle.std.proofs.Common.{◌≡◌, ℕ, zero, suc, ◌^◌, refl, sym, ap, subst, ◌∙◌, Bool, true, false, not, ◌&&◌, ◌==◌, nat_le, List, [], ◌∷◌, ◌++◌, length, pos, negsuc, arith}
+use Rattle.std.specs.List.{list_all}
 use Rattle.std.proofs.lemmas.Bool.{leb-true}
 use Rattle.std.proofs.lemmas.Bool.Decides.{nat_tests}
 use Rattle.std.proofs.lemmas.Fmt.{decimal_digit}
 use Rattle.hhas_lex.specs.Bytes.{is_white, is_lower, is_word_start, is_word_byte, is_digit, is_mark, is_name}
 use Rattle.hhas_lex.specs.Tokens.{Token, Directive, Word, Local, Integer, Str, Mark, LessEqual, End, Bad}
-use Rattle.hhas_lex.specs.Spelling.{is_proper, escaped, spelling, Stops, Apart, is_set_off, is_equals, touches}
+use Rattle.hhas_lex.specs.Spelling.{is_proper, spelling, Stops, Apart, is_set_off, is_equals, touches}
 use Rattle.hhas_lex.proofs.ByteTests.{both, at_byte, white_byte, mark_byte}
 use Rattle.hhas_lex.proofs.Fronts.{split}
-use Rattle.hhas_lex.proofs.Pieced.{not-true}
-use Rattle.hhas_lex.proofs.Spelled.{Decimal, decimals}
+use Rattle.hhas_lex.proofs.Spelled.{decimals}
 
 -- a byte that goes on with no word, directive or integer
 abbrev Sets : ℕ → Type 0

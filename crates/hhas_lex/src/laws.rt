@@ -1,9 +1,10 @@
 //! Laws of tokens.
 
-ghost use Rattle.std.specs.Prelude.{◌≡◌, ◌≢◌, ℕ, length, true, List, [], ◌∷◌, ◌++◌, drop, Some};
+ghost use Rattle.std.specs.Prelude.{◌≡◌, ◌≢◌, ℕ, length, true, List, [], ◌∷◌, ◌++◌, drop, map, Some};
 ghost use Rattle.hhas_lex.specs.Bytes.{is_white};
 ghost use Rattle.hhas_lex.specs.Pieces.{IsString};
 ghost use Rattle.hhas_lex.specs.Shape.{shape};
+ghost use Rattle.hhas_lex.specs.Spaced.{Spaced, is_clear, last_of, text_of};
 ghost use Rattle.hhas_lex.specs.Spelling.{Apart, is_proper, spelling, touches};
 ghost use Rattle.hhas_lex.specs.Strings.{value_of};
 ghost use Rattle.hhas_lex.specs.Tokens.{Bad, End, Token, behind, front, places, tokens};
@@ -22,6 +23,12 @@ pub fn neighbours_are_told_apart()
     ensures white { (t : Token) (b : ℕ) (rest : List ℕ) → is_white b ≡ true → Apart t (b ∷ rest) }
     ensures touching { (t next : Token) (rest : List ℕ) → is_proper next ≡ true → touches t next ≡ true → Apart t (spelling next ++ rest) }
     ensures end { (t : Token) → Apart t [] }
+{}
+
+/// A text of proper tokens that are told apart has just these tokens.
+pub fn spaced_tokens_are_read()
+    ensures { (t : Token) (more : List Spaced) (rest : List ℕ) → is_proper t ≡ true → is_clear t more ≡ true → Apart (last_of t more) rest
+        → tokens (spelling t ++ (text_of more ++ rest)) ≡ t ∷ (map (λ (s : Spaced). s.token) more ++ tokens rest) }
 {}
 
 /// The end, or the place where no token begins, is the last token and no other is, and each token has its place.

@@ -10,7 +10,8 @@ mod token;
 mod value;
 
 pub use laws::{
-    neighbours_are_told_apart, spelled_tokens_are_read, strings_are_their_pieces, tokens_end_once,
+    neighbours_are_told_apart, spaced_tokens_are_read, spelled_tokens_are_read,
+    strings_are_their_pieces, tokens_end_once,
 };
 pub use lexer::Lexer;
 pub use token::{LexFault, Token, TokenKind};
