@@ -1,8 +1,7 @@
 -- Lower states have lower flows.
-use Rattle.std.proofs.Common.{◌≡◌, ◌⊎◌, inl, inr, ℕ, zero, suc, refl, sym, ap, subst, Bool, true, false, Option, Some, None, List, [], ◌∷◌, ◌++◌, filter, length, cond, Contains, arith}
-use Rattle.type_lattice.specs.declared.types.HType.{HType}
+use Rattle.std.proofs.Common.{◌≡◌, ◌⊎◌, inl, inr, ℕ, zero, suc, refl, sym, ap, subst, Bool, true, false, Option, Some, None, List, [], ◌∷◌, ◌++◌, filter, cond, Contains, arith}
 use Rattle.type_lattice.specs.Classes.{Tree}
-use Rattle.type_lattice.specs.Order.{Le, PartLe}
+use Rattle.type_lattice.specs.Order.{PartLe}
 use Rattle.type_lattice.specs.Types.{never}
 use Rattle.type_lattice.proofs.OrderLaws.{Le-refl}
 use Rattle.hhbc_repo.specs.declared.code.Code.{Code}
@@ -12,10 +11,10 @@ use Rattle.hhbc_repo.specs.Bodies.{body_at, code_at, tree_of}
 use Rattle.hhbc_repo.specs.Codes.{throws}
 use Rattle.hhbc_repo.specs.Edges.{handler_of}
 use Rattle.hhbc_repo.specs.Truth.{Facts}
-use Rattle.abstract_step.specs.State.{State, StateLe, AllLe, is_alive}
-use Rattle.abstract_step.specs.Flow.{Row, Effect, Flows, row, to_behind, to_handler, exception_type, lives, has_type, completed, no_flows, code_flow, body_flow, flow}
+use Rattle.abstract_step.specs.State.{State, StateLe}
+use Rattle.abstract_step.specs.Flow.{Row, Effect, row, to_behind, to_handler, exception_type, lives, has_type, completed, no_flows, code_flow, body_flow}
 use Rattle.abstract_step.specs.Laws.{FlowsLe, FlowIsMonotone, CodeFitsRow}
-use Rattle.abstract_step.proofs.StateOrder.{alive-le, never-le}
+use Rattle.abstract_step.proofs.StateOrder.{alive-le}
 use Rattle.abstract_step.proofs.Rows.{same_row, IsStraight, row-straight, RowLe, row-le, fits_code}
 
 abbrev In : {A : Type 0} → List A → A → Type 0

@@ -1,5 +1,5 @@
 -- The rows of all codes: what they don't do, that lower states have lower rows, and that they hold what a turn does.
-use Rattle.std.proofs.Common.{◌≡◌, ℕ, suc, refl, true, Option, Some, None, List, [], ◌∷◌, slice_get}
+use Rattle.std.proofs.Common.{◌≡◌, ℕ, refl, true, Option, Some, None, List, [], ◌∷◌, slice_get}
 use Rattle.std.proofs.lemmas.Bool.Decides.{Decides-int_eq}
 use Rattle.hack_values.specs.declared.cell.Cell.{Cell}
 use Rattle.hack_values.specs.declared.cell.Slot.{Slot}
@@ -10,7 +10,7 @@ use Rattle.type_lattice.specs.declared.types.HType.{HType}
 use Rattle.type_lattice.specs.Classes.{Tree}
 use Rattle.type_lattice.specs.Order.{Le, PartLe}
 use Rattle.type_lattice.specs.Types.{initialised, never}
-use Rattle.type_lattice.specs.Member.{Heap, cell_in, is_member, AreMembers}
+use Rattle.type_lattice.specs.Member.{cell_in, is_member, AreMembers}
 use Rattle.type_lattice.proofs.OrderLaws.{Le-refl}
 use Rattle.type_lattice.proofs.Members.{cell_in-initialised}
 use Rattle.hhbc_repo.specs.declared.code.Code.{Code}
@@ -20,7 +20,7 @@ use Rattle.hhbc_repo.specs.declared.body.Body.{Body}
 use Rattle.hhbc_repo.specs.Linked.{Linked}
 use Rattle.hhbc_repo.specs.Codes.{local_of, int_of}
 use Rattle.hhbc_repo.specs.Truth.{Facts}
-use Rattle.hhbc_repo.specs.Machine.{World, Frame, Turn, Goes, Calls, Returns, Raises, Ends, with_cell, read_slot, perform, perform_code}
+use Rattle.hhbc_repo.specs.Machine.{World, Frame, Turn, with_cell, read_slot, perform, perform_code}
 use Rattle.abstract_step.specs.State.{State, AllLe, StateLe}
 use Rattle.abstract_step.specs.Flow.{Row, nothing, with_type, with_local_type, op_row, row}
 pub use Rattle.abstract_step.specs.Laws.{Lies, LiesBehind, Fits}

@@ -11,7 +11,7 @@ use Rattle.hhbc_repo.specs.Bodies.{tree_of}
 use Rattle.hhbc_repo.specs.Truth.{Facts}
 use Rattle.hhbc_repo.specs.Machine.{World, Frame, Turn, Goes, Calls, Returns, Raises, Ends, perform_code}
 use Rattle.abstract_step.specs.State.{State, AllLe, StateLe, is_alive}
-use Rattle.abstract_step.specs.Flow.{Effect, Row, Flows, row, flow}
+use Rattle.abstract_step.specs.Flow.{Row, Flows, row, flow}
 
 pub record FactsLe (tree : Tree) (F G : Facts) : Type 0 where
   pub returns : AllLe tree F.returns G.returns
