@@ -1,2 +1,4 @@
+pub mod FlowOrder
 pub mod Rows
 pub mod StateOrder
+pub mod StateSame

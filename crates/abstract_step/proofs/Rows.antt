@@ -1,8 +1,7 @@
 -- The rows of all codes: what they don't do, that lower states have lower rows, and that they hold what a turn does.
-use Rattle.std.proofs.Common.{◌≡◌, ℕ, ℤ, zero, suc, refl, Bool, true, false, Option, Some, None, List, [], ◌∷◌, slice_get, slice_set}
+use Rattle.std.proofs.Common.{◌≡◌, ℕ, refl, true, Option, Some, None, List, [], ◌∷◌, slice_get}
 use Rattle.std.proofs.lemmas.Bool.Decides.{Decides-int_eq}
 use Rattle.hack_values.specs.declared.cell.Cell.{Cell}
-use Rattle.hack_values.specs.declared.cell.Cell.TheVariants as cells
 use Rattle.hack_values.specs.declared.cell.Slot.{Slot}
 use Rattle.hack_values.specs.declared.cell.Slot.TheVariants as slots
 use Rattle.hhbc_ops.specs.declared.op.Op.{Op}
@@ -11,7 +10,7 @@ use Rattle.type_lattice.specs.declared.types.HType.{HType}
 use Rattle.type_lattice.specs.Classes.{Tree}
 use Rattle.type_lattice.specs.Order.{Le, PartLe}
 use Rattle.type_lattice.specs.Types.{initialised, never}
-use Rattle.type_lattice.specs.Member.{Heap, cell_in, is_member, AreMembers}
+use Rattle.type_lattice.specs.Member.{cell_in, is_member, AreMembers}
 use Rattle.type_lattice.proofs.OrderLaws.{Le-refl}
 use Rattle.type_lattice.proofs.Members.{cell_in-initialised}
 use Rattle.hhbc_repo.specs.declared.code.Code.{Code}
@@ -21,9 +20,10 @@ use Rattle.hhbc_repo.specs.declared.body.Body.{Body}
 use Rattle.hhbc_repo.specs.Linked.{Linked}
 use Rattle.hhbc_repo.specs.Codes.{local_of, int_of}
 use Rattle.hhbc_repo.specs.Truth.{Facts}
-use Rattle.hhbc_repo.specs.Machine.{World, Frame, Turn, Goes, Calls, Returns, Raises, Ends, with_cell, read_slot, perform, perform_code}
+use Rattle.hhbc_repo.specs.Machine.{World, Frame, Turn, with_cell, read_slot, perform, perform_code}
 use Rattle.abstract_step.specs.State.{State, AllLe, StateLe}
-use Rattle.abstract_step.specs.Flow.{Row, Effect, nothing, with_type, with_local_type, op_row, row}
+use Rattle.abstract_step.specs.Flow.{Row, nothing, with_type, with_local_type, op_row, row}
+pub use Rattle.abstract_step.specs.Laws.{Lies, LiesBehind, Fits}
 use Rattle.abstract_step.proofs.StateOrder.{BothAt, AllLe-get, AllLe-set, never-le, initialised-le, AreMembers-get, AreMembers-set}
 
 -- codes of constants and locals ask for no other body and no facts
@@ -104,10 +104,10 @@ module _ (tree : Tree) where
       with_type-le s.stack t.stack _ _ h.stack (λ a tail b more e k. on_both _ _ (record { locals = h.locals; stack = k; iters = h.iters }))
   op_row-le r F n ops.SetL imms s t h =
       with_type-le s.stack t.stack _ _ h.stack
-        (λ a tail b more e k. on_both _ _ (record { locals = AllLe-set tree _ _ (local_of imms) _ _ h.locals e; stack = h.stack; iters = h.iters }))
+      (λ a tail b more e k. on_both _ _ (record { locals = AllLe-set tree _ _ (local_of imms) _ _ h.locals e; stack = h.stack; iters = h.iters }))
   op_row-le r F n ops.CGetL imms s t h =
       with_local_type-le _ _ _ _ (AllLe-get tree s.locals t.locals (local_of imms) h.locals)
-        (λ a b e. on_both _ _ (record { locals = h.locals; stack = (e, h.stack); iters = h.iters }))
+      (λ a b e. on_both _ _ (record { locals = h.locals; stack = (e, h.stack); iters = h.iters }))
   op_row-le r F n ops.RetC imms s t h =
       with_type-le s.stack t.stack _ _ h.stack (λ a tail b more e k. record { behind = tt; returned = e })
 
@@ -115,28 +115,11 @@ module _ (tree : Tree) where
   row-le r F n (kinds.Plain i) s t h = op_row-le r F n i.op i.imms s t h
   row-le r F n (kinds.Member m) s t h = nothing-le nothing
 
--- the frame's slots are of the types of the state
-pub record Lies (tree : Tree) (f : Frame) (heap : Heap) (s : State) : Type 0 where
-  pub locals : AreMembers tree heap f.locals s.locals
-  pub stack : AreMembers tree heap f.stack s.stack
-
-abbrev pub LiesBehind : Tree → Frame → Heap → Option State → Type 0
-LiesBehind tree f heap None = ⊥
-LiesBehind tree f heap (Some s) = Lies tree f heap s
-
--- what a turn of the frame does is in the row: where it goes on, it goes to the position behind, and the world stays
-abbrev pub Fits : Tree → Frame → World → Row → Turn → Type 0
-Fits tree f w o (Goes g v) = LiesBehind tree g w.heap o.behind × (g.position ≡ suc f.position) × (g.body ≡ f.body) × (v ≡ w)
-Fits tree f w o (Calls g v) = ⊥
-Fits tree f w o (Returns c v) = (cell_in tree w.heap c o.returned ≡ true) × (v ≡ w)
-Fits tree f w o (Raises e v) = Unit {0}
-Fits tree f w o (Ends e v) = Unit {0}
-
 module _ (tree : Tree) (f : Frame) (w : World) where
   fits_cell : (ss : List Slot) (ts : List HType) (go : Cell → List Slot → Turn) (to : HType → List HType → Row)
       → AreMembers tree w.heap ss ts
       → ((c : Cell) (rest : List Slot) (t : HType) (more : List HType) → cell_in tree w.heap c t ≡ true → AreMembers tree w.heap rest more
-        → Fits tree f w (to t more) (go c rest))
+      → Fits tree f w (to t more) (go c rest))
       → Fits tree f w (with_type ts to) (with_cell ss w go)
   fits_cell [] ts go to h k = tt
   fits_cell (slots.Uninit ∷ rest) ts go to h k = tt
@@ -163,11 +146,11 @@ module _ (tree : Tree) (f : Frame) (w : World) where
       fits_cell f.stack s.stack _ _ h.stack (λ c rest t more m k. (record { locals = h.locals; stack = k }, refl, refl, refl))
   fits_op r F n ops.SetL imms b s h =
       fits_cell f.stack s.stack _ _ h.stack
-        (λ c rest t more m k.
-          (record { locals = AreMembers-set tree w.heap f.locals s.locals (local_of imms) (slots.Cell c) t h.locals m; stack = h.stack }, refl, refl, refl))
+      (λ c rest t more m k.
+      (record { locals = AreMembers-set tree w.heap f.locals s.locals (local_of imms) (slots.Cell c) t h.locals m; stack = h.stack }, refl, refl, refl))
   fits_op r F n ops.CGetL imms b s h =
       fits_local _ _ _ _ _ (AreMembers-get tree w.heap f.locals s.locals (local_of imms) h.locals)
-        (λ c t m. (record { locals = h.locals; stack = (m, h.stack) }, refl, refl, refl))
+      (λ c t m. (record { locals = h.locals; stack = (m, h.stack) }, refl, refl, refl))
   fits_op r F n ops.RetC imms b s h =
       fits_cell f.stack s.stack _ _ h.stack (λ c rest t more m k. (m, refl))
 

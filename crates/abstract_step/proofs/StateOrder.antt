@@ -3,7 +3,7 @@ use Rattle.std.proofs.Common.{◌≡◌, ℕ, zero, suc, refl, Bool, true, false
 use Rattle.hack_values.specs.declared.cell.Slot.{Slot}
 use Rattle.type_lattice.specs.declared.types.HType.{HType}
 use Rattle.type_lattice.specs.Classes.{Tree}
-use Rattle.type_lattice.specs.Order.{Le, LeafLe, PartLe}
+use Rattle.type_lattice.specs.Order.{Le}
 use Rattle.type_lattice.specs.Types.{initialised, never}
 use Rattle.type_lattice.specs.Never.{is_never, all_alive}
 use Rattle.type_lattice.specs.Member.{Heap, is_member, AreMembers}

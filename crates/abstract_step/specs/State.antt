@@ -1,5 +1,5 @@
 -- What is known at a position: a type for each local and each slot of the stack, and what each live iterator gives.
-use Rattle.std.specs.Prelude.{ℕ, ◌-◌, Bool, List, [], ◌∷◌, ◌++◌, ◌&&◌, Option, Some, None, length, replicate}
+use Rattle.std.specs.Prelude.{◌-◌, Bool, List, [], ◌∷◌, ◌++◌, ◌&&◌, length, replicate}
 use Rattle.type_lattice.specs.declared.types.Leaf.{Leaf}
 use Rattle.type_lattice.specs.declared.types.HType.{HType}
 use Rattle.type_lattice.specs.Classes.{Tree}

@@ -1,28 +1,28 @@
 -- The states along a body without jumps annotate its repository.
-use Rattle.std.proofs.Common.{◌≡◌, ◌⊎◌, inl, inr, ℕ, zero, suc, ◌<◌, refl, sym, ◌∙◌, ap, ap₂, subst, Bool, true, false, Option, Some, None, List, [], ◌∷◌, map, slice_get, length, Contains, arith}
+use Rattle.std.proofs.Common.{◌≡◌, inl, inr, ℕ, zero, suc, refl, sym, ap, ap₂, subst, Some, List, [], ◌∷◌, map, slice_get, Contains, arith}
 use Rattle.type_lattice.specs.declared.types.HType.{HType}
 use Rattle.type_lattice.specs.declared.types.StrPart.TheVariants as strs
 use Rattle.type_lattice.specs.Order.{Le}
 use Rattle.type_lattice.specs.Types.{never}
-use Rattle.type_lattice.specs.Proper.{IsProper, IsJoin}
+use Rattle.type_lattice.specs.Proper.{IsJoin}
 use Rattle.type_lattice.proofs.OrderLaws.{Le-refl}
 use Rattle.hhbc_repo.specs.declared.body.Body.{Body}
 use Rattle.hhbc_repo.specs.declared.body.Position.{Position}
 use Rattle.hhbc_repo.specs.Linked.{Linked}
 use Rattle.hhbc_repo.specs.Bodies.{built_in_tree}
 use Rattle.hhbc_repo.specs.Bare.{bare_body, bare_position, bare}
-use Rattle.hhbc_repo.specs.Form.{FitPositions, IsFirstBody, IsFirstForm}
+use Rattle.hhbc_repo.specs.Form.{FitPositions}
 use Rattle.hhbc_repo.specs.Truth.{Facts}
 use Rattle.hhbc_repo.proofs.FirstForm.{only, first_is}
-use Rattle.abstract_step.specs.State.{State, entry_state}
+use Rattle.abstract_step.specs.State.{entry_state}
 use Rattle.abstract_step.specs.Flow.{Effect, flow}
 use Rattle.func_analyze.specs.Solution.{Table, HasState, IsLeast}
 use Rattle.func_analyze.specs.Rounds.{top, IsReturned, IsWritten, IsHeld, AreLeast, IsRound, IsFacts}
-use Rattle.func_analyze.specs.Annotated.{with_claims, annotated_body, annotated, IsAnnotated}
-use Rattle.func_analyze.specs.Chain.{chain, returned_at_end, annotated_main, annotated_by}
+use Rattle.func_analyze.specs.Annotated.{with_claims, IsAnnotated}
+use Rattle.func_analyze.specs.Chain.{chain, annotated_by}
 use Rattle.func_analyze.specs.Laws.{ChainIsLeast, ChainAnnotates}
 use Rattle.func_analyze.proofs.ChainLeast.{within, chain_least}
-use Rattle.func_analyze.proofs.ChainRounds.{Gives, flow_gives, states_of, end_of, joined}
+use Rattle.func_analyze.proofs.ChainRounds.{flow_gives, states_of, end_of, joined}
 
 -- what a message holds
 abbrev any_string : HType
@@ -94,7 +94,7 @@ after_rounds : (count : ℕ) (b : Body) → b.regions ≡ [] → FitPositions co
 after_rounds count b g w zero = (top (only (bare_body b)), refl, a_round count b g w _)
 after_rounds count b g w (suc n) = (facts_of b, after_rounds count b g w n, a_round count b g w _)
 
-claims_bare : (ps : List Position) (T : Table) → with_claims (map bare_position ps) T ≡ with_claims ps T
+pub claims_bare : (ps : List Position) (T : Table) → with_claims (map bare_position ps) T ≡ with_claims ps T
 claims_bare [] T = refl
 claims_bare (p ∷ ps) [] = ap (λ (qs : List Position). bare_position p ∷ qs) (claims_bare ps [])
 claims_bare (p ∷ ps) (s ∷ T) = ap₂ (λ (q : Position) (qs : List Position). q ∷ qs) refl (claims_bare ps T)

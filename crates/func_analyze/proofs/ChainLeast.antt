@@ -1,5 +1,5 @@
 -- The states along a body without jumps are its least solution.
-use Rattle.std.proofs.Common.{◌≡◌, ℕ, zero, suc, ◌<◌, refl, sym, ◌∙◌, ap, subst, Bool, true, false, Option, Some, None, List, [], ◌∷◌, ◌++◌, map, filter, slice_get, slice_index_or, length, cond, Contains, arith}
+use Rattle.std.proofs.Common.{◌≡◌, ℕ, zero, suc, refl, sym, ◌∙◌, ap, subst, Bool, true, false, Option, Some, None, List, [], ◌∷◌, ◌++◌, filter, slice_get, length, cond, Contains, arith}
 use Rattle.std.proofs.lemmas.Option.{slice_get-map}
 use Rattle.std.proofs.lemmas.List.{length-map}
 use Rattle.hhbc_ops.specs.declared.op.Op.{Op}
@@ -16,15 +16,15 @@ use Rattle.hhbc_repo.specs.Bodies.{built_in_tree, code_at}
 use Rattle.hhbc_repo.specs.Bare.{bare_body, bare_position}
 use Rattle.hhbc_repo.specs.Codes.{throws}
 use Rattle.hhbc_repo.specs.Edges.{handler_of}
-use Rattle.hhbc_repo.specs.Form.{FitPositions, FitsPosition, IsReturn}
+use Rattle.hhbc_repo.specs.Form.{FitPositions, IsReturn}
 use Rattle.hhbc_repo.specs.Truth.{Facts}
 use Rattle.hhbc_repo.proofs.FirstForm.{only, built_in_transitive}
 use Rattle.abstract_step.specs.State.{State, StateLe, entry_state, is_alive}
-use Rattle.abstract_step.specs.Flow.{Row, Flows, row, with_type, returns, to_behind, to_handler, lives, has_type, completed, code_flow, flow}
+use Rattle.abstract_step.specs.Flow.{Row, row, with_type, returns, to_behind, to_handler, lives, completed, code_flow, flow}
 use Rattle.abstract_step.proofs.StateOrder.{StateLe-refl, StateLe-trans, alive-le}
-use Rattle.abstract_step.proofs.Rows.{same_row, IsStraight, row-straight, RowLe, row-le}
+use Rattle.abstract_step.proofs.Rows.{same_row, IsStraight, row-straight, row-le}
 use Rattle.func_analyze.specs.Solution.{Table, HasState, HasAbove, IsSolution, IsLeast}
-use Rattle.func_analyze.specs.Chain.{no_repo, no_facts, row_of, if_alive, state_behind, chain}
+use Rattle.func_analyze.specs.Chain.{no_repo, no_facts, if_alive, state_behind, chain}
 
 -- what is left of the flows of a straight row
 kept : (p : ℕ) (o : Option State) → filter lives (to_behind p o ++ [] ++ []) ≡ to_behind p (if_alive o)

@@ -1,12 +1,11 @@
 -- What the states along a body without jumps return and annotate.
-use Rattle.std.proofs.Common.{◌≡◌, ◌⊎◌, inl, inr, ℕ, zero, suc, ◌<◌, refl, sym, ◌∙◌, ap, subst, Bool, true, false, Option, Some, None, List, [], ◌∷◌, ◌++◌, map, filter, slice_get, length, cond, Contains, arith}
+use Rattle.std.proofs.Common.{◌≡◌, ◌⊎◌, inl, inr, ℕ, zero, suc, refl, sym, ◌∙◌, ap, subst, Option, Some, None, List, [], ◌∷◌, filter, slice_get}
 use Rattle.hhbc_ops.specs.declared.op.Op.{Op}
 use Rattle.hhbc_ops.specs.declared.op.Op.TheVariants as ops
 use Rattle.type_lattice.specs.declared.types.HType.{HType}
-use Rattle.type_lattice.specs.declared.types.StrPart.TheVariants as strs
 use Rattle.type_lattice.specs.Order.{Le}
 use Rattle.type_lattice.specs.Types.{never}
-use Rattle.type_lattice.specs.Proper.{IsProper, IsJoin}
+use Rattle.type_lattice.specs.Proper.{IsJoin}
 use Rattle.type_lattice.proofs.OrderLaws.{Le-refl}
 use Rattle.hhbc_repo.specs.declared.code.Code.{Code}
 use Rattle.hhbc_repo.specs.declared.code.Code.TheVariants as kinds
@@ -15,20 +14,18 @@ use Rattle.hhbc_repo.specs.declared.body.Body.{Body}
 use Rattle.hhbc_repo.specs.declared.body.Position.{Position}
 use Rattle.hhbc_repo.specs.Linked.{Linked}
 use Rattle.hhbc_repo.specs.Bodies.{built_in_tree, code_at}
-use Rattle.hhbc_repo.specs.Bare.{bare_body, bare_position, bare}
-use Rattle.hhbc_repo.specs.Form.{FitPositions, IsReturn, IsFirstBody, IsFirstForm}
+use Rattle.hhbc_repo.specs.Bare.{bare_body}
+use Rattle.hhbc_repo.specs.Form.{FitPositions, IsReturn}
 use Rattle.hhbc_repo.specs.Truth.{Facts}
-use Rattle.hhbc_repo.proofs.FirstForm.{only, first_is}
+use Rattle.hhbc_repo.proofs.FirstForm.{only}
 use Rattle.abstract_step.specs.State.{State, entry_state}
-use Rattle.abstract_step.specs.Flow.{Row, Effect, Flows, row, with_type, with_local_type, goes, code_flow, flow, completed, has_type}
+use Rattle.abstract_step.specs.Flow.{Row, Effect, Flows, with_type, with_local_type, goes, code_flow, flow, has_type}
 use Rattle.abstract_step.proofs.StateOrder.{never-le}
-use Rattle.abstract_step.proofs.Rows.{same_row, IsStraight, row-straight}
-use Rattle.func_analyze.specs.Solution.{Table, HasState, HasAbove, IsSolution, IsLeast}
-use Rattle.func_analyze.specs.Rounds.{initial_types, top, IsReturned, IsWritten, IsHeld, AreLeast, IsRound, IsFacts}
-use Rattle.func_analyze.specs.Annotated.{with_claims, annotated_body, annotated, IsAnnotated}
-use Rattle.func_analyze.specs.Chain.{no_repo, no_facts, row_of, state_behind, chain, returned_by, returned_at_end, annotated_main, annotated_by}
-use Rattle.func_analyze.specs.Laws.{ChainIsLeast, ChainAnnotates}
-use Rattle.func_analyze.proofs.ChainLeast.{code_there, within, chain_least}
+use Rattle.abstract_step.proofs.Rows.{same_row, row-straight}
+use Rattle.func_analyze.specs.Solution.{Table, HasState}
+use Rattle.func_analyze.specs.Rounds.{IsReturned}
+use Rattle.func_analyze.specs.Chain.{no_repo, no_facts, row_of, state_behind, chain, returned_at_end}
+use Rattle.func_analyze.proofs.ChainLeast.{code_there, within}
 
 -- what a position of the only body returns and writes
 pub record Gives (o : Flows) (t : HType) : Type 0 where
@@ -114,25 +111,28 @@ states_of b = chain b.positions (Some (entry_state b))
 abbrev pub end_of : Body → HType
 end_of b = returned_at_end b.positions (Some (entry_state b))
 
-pub joined : (count : ℕ) (b : Body) → FitPositions count b.positions → (F : Facts)
-    → IsJoin built_in_tree (IsReturned (only (bare_body b)) F 0 (states_of b)) (end_of b)
-joined count b w F = record {
-  above = λ t i.
-      let x = within b.positions (Some (entry_state b)) i.position i.state i.reached in
-      let g = flow_gives b F i.position x.0 i.state x.1 in
-      subst (λ (t : HType). Le built_in_tree t (returned_at_end b.positions (Some (entry_state b)))) (sym g.returned ∙ i.returned)
-      (below_end count b.positions (Some (entry_state b)) i.position i.state x.0 w i.reached x.1);
-  least = λ u proper h. least u h (end_is b.positions (Some (entry_state b)));
-}
+-- it is below each type that is above what the positions return
+pub end_least : (b : Body) (F : Facts) (u : HType)
+    → ((t : HType) → IsReturned (only (bare_body b)) F 0 (states_of b) t → Le built_in_tree t u) → Le built_in_tree (end_of b) u
+end_least b F u h = from (end_is b.positions (Some (entry_state b)))
   where
-    least : (u : HType) → ((t : HType) → IsReturned (only (bare_body b)) F 0 (chain b.positions (Some (entry_state b))) t → Le built_in_tree t u)
-        → (returned_at_end b.positions (Some (entry_state b)) ≡ never) ⊎ ComesLast b.positions (Some (entry_state b))
-        → Le built_in_tree (returned_at_end b.positions (Some (entry_state b))) u
-    least u h (inl e) = subst (λ (t : HType). Le built_in_tree t u) (sym e) (never-le built_in_tree u)
-    least u h (inr l) =
+    from : (end_of b ≡ never) ⊎ ComesLast b.positions (Some (entry_state b)) → Le built_in_tree (end_of b) u
+    from (inl e) = subst (λ (t : HType). Le built_in_tree t u) (sym e) (never-le built_in_tree u)
+    from (inr l) =
         h _ (record {
           position = l.place;
           state = l.state;
           reached = l.at;
           returned = (flow_gives b F l.place l.position l.state l.there).returned ∙ l.is;
         })
+
+pub joined : (count : ℕ) (b : Body) → FitPositions count b.positions → (F : Facts)
+    → IsJoin built_in_tree (IsReturned (only (bare_body b)) F 0 (states_of b)) (end_of b)
+joined count b w F = record {
+  above = λ t i.
+      let x = within b.positions (Some (entry_state b)) i.position i.state i.reached in
+      let g = flow_gives b F i.position x.0 i.state x.1 in
+      subst (λ (t : HType). Le built_in_tree t (end_of b)) (sym g.returned ∙ i.returned)
+      (below_end count b.positions (Some (entry_state b)) i.position i.state x.0 w i.reached x.1);
+  least = λ u proper h. end_least b F u h;
+}

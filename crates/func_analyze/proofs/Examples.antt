@@ -1,5 +1,5 @@
--- Two bodies and their annotations, computed by the definitions.
-use Rattle.std.proofs.Common.{◌≡◌, refl, ℕ, pos, List, [], ◌∷◌, map, Some, None, codes}
+-- Bodies, their annotations and their runs, computed by the definitions.
+use Rattle.std.proofs.Common.{Bool, List, None, Some, [], codes, false, map, pos, refl, true, ℕ, ◌∷◌, ◌≡◌}
 use Rattle.hhbc_ops.specs.declared.op.Op.TheVariants as ops
 use Rattle.type_lattice.specs.declared.types.HType.{HType}
 use Rattle.type_lattice.specs.declared.types.IntPart.TheVariants as ints
@@ -11,6 +11,12 @@ use Rattle.hhbc_repo.specs.declared.body.Assert.TheVariants as asserts
 use Rattle.hhbc_repo.specs.declared.code.Code.{Code}
 use Rattle.hhbc_repo.specs.declared.code.Code.TheVariants as kinds
 use Rattle.hhbc_repo.specs.declared.code.Imm.TheVariants as imms
+use Rattle.hack_values.specs.declared.cell.Cell.TheVariants as cells
+use Rattle.type_lattice.specs.declared.types.StrPart.TheVariants as strs
+use Rattle.hhbc_repo.specs.Linked.{Linked}
+use Rattle.hhbc_repo.specs.Outcome.{Outcome, Returned, Uncaught, AssertFalse, Steps}
+use Rattle.hhbc_repo.specs.Run.{run}
+use Rattle.hhbc_repo.specs.Shapes.{fault_at, Underflow, FallsOff}
 use Rattle.func_analyze.specs.Chain.{annotated_main}
 
 main_of : List Position → Body
@@ -66,3 +72,61 @@ unset_claims = refl
 unset_states : (annotated_main (main_of (map bare_code unset))).stated ≡ Some never
 unfolding main_of bare_code unset
 unset_states = refl
+
+one : Body → Linked
+one b = record { functions = b ∷ []; classes = [] }
+
+runs_to : Body → ℕ → Bool → Outcome
+runs_to b n asserted = (run (one b) (codes "main") [] n asserted).outcome
+
+-- 4 steps don't suffice, and 5 do, with the assertions of the annotated body too
+spent : runs_to (main_of (map bare_code stored)) 4 false ≡ Steps
+unfolding runs_to one main_of bare_code stored
+spent = refl
+
+spent_annotated : runs_to (annotated_main (main_of (map bare_code stored))) 4 true ≡ Steps
+unfolding runs_to one main_of bare_code stored
+spent_annotated = refl
+
+returned : runs_to (main_of (map bare_code stored)) 5 false ≡ Returned (cells.Int (pos 2))
+unfolding runs_to one main_of bare_code stored
+returned = refl
+
+returned_annotated : runs_to (annotated_main (main_of (map bare_code stored))) 5 true ≡ Returned (cells.Int (pos 2))
+unfolding runs_to one main_of bare_code stored
+returned_annotated = refl
+
+-- a local that isn't set raises an exception, which nothing catches
+uncaught : runs_to (main_of (map bare_code unset)) 5 false ≡ Uncaught 3 (codes "undefined $x") (record { body = 0; position = 0 })
+unfolding runs_to one main_of bare_code unset
+uncaught = refl
+
+-- a false assertion ends a run where assertions are tested
+any_string : HType
+any_string = record never { str = strs.Any }
+
+asserting : List Position
+asserting =
+    bare_code (kinds.Plain (record { op = ops.Int; imms = imms.Int (pos 2) ∷ [] }))
+    ∷ bare_code (kinds.Plain (record { op = ops.SetL; imms = imms.Local 0 ∷ [] }))
+    ∷ bare_code (kinds.Plain (record { op = ops.PopC; imms = [] }))
+    ∷ record { asserts = asserts.Local 0 any_string ∷ []; code = kinds.Plain (record { op = ops.CGetL; imms = imms.Local 0 ∷ [] }) }
+    ∷ bare_code (kinds.Plain (record { op = ops.RetC; imms = [] }))
+    ∷ []
+
+untested : runs_to (main_of asserting) 5 false ≡ Returned (cells.Int (pos 2))
+unfolding runs_to one main_of asserting bare_code any_string
+untested = refl
+
+false_assertion : runs_to (main_of asserting) 5 true ≡ AssertFalse (record { body = 0; position = 3 })
+unfolding runs_to one main_of asserting bare_code any_string
+false_assertion = refl
+
+-- a code that reaches below the stack, and a body whose end is fallen off
+below : fault_at (main_of (bare_code (kinds.Plain (record { op = ops.PopC; imms = [] })) ∷ [])) 0 ≡ Some Underflow
+unfolding main_of bare_code
+below = refl
+
+falls : fault_at (main_of (bare_code (kinds.Plain (record { op = ops.Null; imms = [] })) ∷ [])) 0 ≡ Some FallsOff
+unfolding main_of bare_code
+falls = refl

@@ -7,30 +7,28 @@ use Rattle.type_lattice.specs.Order.{Le}
 use Rattle.type_lattice.specs.Proper.{IsJoin}
 use Rattle.type_lattice.specs.Member.{Heap, cell_in}
 use Rattle.type_lattice.proofs.Members.{cell_in-le}
-use Rattle.hhbc_repo.specs.declared.body.Assert.{Assert}
 use Rattle.hhbc_repo.specs.declared.body.Body.{Body}
 use Rattle.hhbc_repo.specs.declared.body.Position.{Position}
 use Rattle.hhbc_repo.specs.Linked.{Linked}
-use Rattle.hhbc_repo.specs.Bodies.{built_in_tree, tree_of}
-use Rattle.hhbc_repo.specs.Bare.{bare, bare_body, bare_position}
+use Rattle.hhbc_repo.specs.Bodies.{built_in_tree}
+use Rattle.hhbc_repo.specs.Bare.{bare_body, bare_position}
 use Rattle.hhbc_repo.specs.Form.{IsFirstBody, IsFirstForm}
-use Rattle.hhbc_repo.specs.Outcome.{Why, Stuck}
+use Rattle.hhbc_repo.specs.Outcome.{Stuck}
 use Rattle.hhbc_repo.specs.Machine.{World, Frame, Turn, Returns, turn}
 use Rattle.hhbc_repo.specs.Steps.{Config, Running, Ended, next}
-use Rattle.hhbc_repo.specs.Run.{test, asserts_in, asserts_of, tested, advance, after, start, start_in, state_after, result_of, run, Result}
+use Rattle.hhbc_repo.specs.Run.{test, asserts_in, asserts_of, tested, advance, after, start, start_in, state_after, result_of}
 use Rattle.hhbc_repo.specs.Shapes.{Types}
-use Rattle.hhbc_repo.specs.Truth.{Facts, AreArguments, HoldIn, ReturnsIn, ClaimsHold, ClaimsAreTrue, IsNeverStuck, RunsAs, IsFaithful, stated_props, stated_returns}
+use Rattle.hhbc_repo.specs.Truth.{Facts, HoldIn, ReturnsIn, ClaimsHold, IsFaithful, stated_props, stated_returns}
 use Rattle.hhbc_repo.proofs.FirstForm.{only, first_is, built_in_transitive}
 use Rattle.hhbc_repo.proofs.Steady.{only_at, first_form_never_sticks}
-use Rattle.abstract_step.specs.State.{State}
 use Rattle.abstract_step.specs.Flow.{flow}
-use Rattle.abstract_step.proofs.Rows.{Lies, Fits}
-use Rattle.func_analyze.specs.Solution.{Table, HasState, IsSolution, IsLeast}
-use Rattle.func_analyze.specs.Rounds.{IsReturned, AreLeast, IsRound, IsFacts}
-use Rattle.func_analyze.specs.Annotated.{annotated_body, annotated, or_empty, with_claims, IsAnnotated}
+use Rattle.abstract_step.proofs.Rows.{Fits}
+use Rattle.func_analyze.specs.Solution.{Table, IsSolution}
+use Rattle.func_analyze.specs.Rounds.{IsReturned}
+use Rattle.func_analyze.specs.Annotated.{annotated_body, or_empty, IsAnnotated}
 use Rattle.func_analyze.specs.Chain.{row_of}
 use Rattle.func_analyze.specs.Laws.{AnnotatedIsFaithful}
-use Rattle.func_analyze.proofs.ChainRounds.{Gives, flow_gives}
+use Rattle.func_analyze.proofs.ChainRounds.{flow_gives}
 use Rattle.func_analyze.proofs.Sound.{Sits, Sound, no_turn, fits_here, sound_after, sound_start}
 use Rattle.func_analyze.proofs.ClaimsHold.{claims_at, bare_annotated}
 
@@ -38,7 +36,7 @@ use Rattle.func_analyze.proofs.ClaimsHold.{claims_at, bare_annotated}
 abbrev told : Body → Option HType → Table → Body
 told b t T = annotated_body (bare_body b) t T
 
-one_of : (Ts : List Table) → length Ts ≡ 1 → (T : Table) × (slice_get Ts 0 ≡ Some T)
+pub one_of : (Ts : List Table) → length Ts ≡ 1 → (T : Table) × (slice_get Ts 0 ≡ Some T)
 one_of [] e = absurd (omega arith)
 one_of (T ∷ Ts) e = (T, refl)
 
@@ -85,7 +83,7 @@ none_stated A heap n o e i c f zero g t k = absurd (cc)
 none_stated A heap n o e i c f (suc q) g t k = absurd (cc)
 
 -- what the body returns is of the join of its returned types
-returns_join : (b : Body) (form : IsFirstBody b) (F : Facts) (T : Table) → IsSolution (only (bare_body b)) F 0 T → (t : HType) → IsJoin built_in_tree (IsReturned (only (bare_body b)) F 0 T) t
+pub returns_join : (b : Body) (form : IsFirstBody b) (F : Facts) (T : Table) → IsSolution (only (bare_body b)) F 0 T → (t : HType) → IsJoin built_in_tree (IsReturned (only (bare_body b)) F 0 T) t
     → (f : Frame) (w : World) → Sits T f w.heap → (o : Option Position) → slice_get b.positions f.position ≡ o
     → (c : Cell) (v : World) → turn (only (bare_body b)) f w ≡ Returns c v → cell_in built_in_tree v.heap c t ≡ true
 returns_join b form F T solves t join f w h None e c v i =

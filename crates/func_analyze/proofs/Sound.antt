@@ -1,30 +1,27 @@
 -- In each run of a repository of the first form the frame lies in the state of its position, under any facts.
-use Rattle.std.proofs.Common.{◌≡◌, ℕ, zero, suc, ◌+◌, ◌-◌, refl, sym, ◌∙◌, ap, subst, Bool, true, false, ◌==◌, nat_eq, Option, Some, None, List, [], ◌∷◌, ◌++◌, map, replicate, slice_get, length, cond, Contains, arith}
+use Rattle.std.proofs.Common.{◌≡◌, ℕ, zero, suc, ◌-◌, refl, sym, ◌∙◌, ap, subst, Bool, true, false, ◌==◌, nat_eq, Option, Some, None, List, [], ◌∷◌, ◌++◌, map, replicate, slice_get, length, cond, Contains, arith}
 use Rattle.std.specs.Cmp.Lexicographic.{pointwise}
 use Rattle.std.proofs.lemmas.Bool.Decides.{Decides-eqb}
 use Rattle.std.proofs.lemmas.Option.{slice_get-map}
 use Rattle.hack_values.specs.declared.cell.Cell.{Cell}
-use Rattle.hack_values.specs.declared.cell.Slot.{Slot}
 use Rattle.hack_values.specs.declared.cell.Slot.TheVariants as slots
-use Rattle.type_lattice.specs.declared.types.HType.{HType}
 use Rattle.type_lattice.specs.Types.{cell, uninit}
-use Rattle.type_lattice.specs.Member.{Heap, is_member, cell_in, AreMembers}
+use Rattle.type_lattice.specs.Member.{Heap, AreMembers}
 use Rattle.type_lattice.proofs.Members.{cell_in-cell, AreMembers-alive}
 use Rattle.hhbc_repo.specs.declared.code.Code.{Code}
 use Rattle.hhbc_repo.specs.declared.body.Body.{Body}
 use Rattle.hhbc_repo.specs.declared.body.Position.{Position}
-use Rattle.hhbc_repo.specs.Linked.{Linked}
-use Rattle.hhbc_repo.specs.Bodies.{built_in_tree, body_at, code_of, code_at}
-use Rattle.hhbc_repo.specs.Bare.{bare, bare_body, bare_position}
+use Rattle.hhbc_repo.specs.Bodies.{built_in_tree, code_at}
+use Rattle.hhbc_repo.specs.Bare.{bare_body, bare_position}
 use Rattle.hhbc_repo.specs.Truth.{Facts}
-use Rattle.hhbc_repo.specs.Outcome.{Outcome, WrongCount, UnknownEntry, Underflow}
+use Rattle.hhbc_repo.specs.Outcome.{WrongCount, Underflow}
 use Rattle.hhbc_repo.specs.Machine.{World, Frame, Turn, Goes, Calls, Returns, Raises, Ends, Fails, Sticks, perform_code, turn_in, turn}
 use Rattle.hhbc_repo.specs.Steps.{Config, Running, Ended, finish, next}
 use Rattle.hhbc_repo.specs.Run.{advance, after, entered, no_world, start_in, start}
 use Rattle.hhbc_repo.proofs.FirstForm.{only, built_in_transitive}
 use Rattle.hhbc_repo.proofs.Steady.{only_at, turn_is, uncaught_here}
 use Rattle.abstract_step.specs.State.{State, StateLe, entry_state, is_alive}
-use Rattle.abstract_step.specs.Flow.{Row, flow, to_behind}
+use Rattle.abstract_step.specs.Flow.{flow}
 use Rattle.abstract_step.proofs.StateOrder.{AreMembers-le, together}
 use Rattle.abstract_step.proofs.Rows.{Lies, LiesBehind, Fits, fits_code}
 use Rattle.func_analyze.specs.Solution.{Table, HasState, HasAbove, IsSolution}

@@ -1,5 +1,5 @@
 -- The states along a body without jumps, each made from the one before it.
-use Rattle.std.specs.Prelude.{ℕ, zero, suc, List, [], ◌∷◌, Option, Some, None, if◌then◌else◌}
+use Rattle.std.specs.Prelude.{List, [], ◌∷◌, Option, Some, None, if◌then◌else◌}
 use Rattle.type_lattice.specs.declared.types.HType.{HType}
 use Rattle.type_lattice.specs.Types.{never}
 use Rattle.hhbc_repo.specs.declared.body.Body.{Body}

@@ -1,12 +1,18 @@
 -- How the states along a body without jumps answer the definitions.
-use Rattle.std.specs.Prelude.{◌≡◌, ℕ, suc, Some}
+use Rattle.std.specs.Prelude.{◌≡◌, ℕ, suc, Some, List, [], ◌∷◌, FitsSigned}
+use Rattle.std.proofs.Common.{w64}
+use Rattle.hhbc_repo.specs.declared.code.Code.{Code}
+use Rattle.hhbc_repo.specs.declared.code.Code.TheVariants as kinds
+use Rattle.hhbc_repo.specs.declared.body.Position.{Position}
+use Rattle.hhbc_repo.specs.Codes.{int_of}
 use Rattle.hhbc_repo.specs.Linked.{Linked}
 use Rattle.hhbc_repo.specs.Form.{IsFirstForm}
 use Rattle.hhbc_repo.specs.Bare.{bare}
-use Rattle.hhbc_repo.specs.Truth.{Facts, IsFaithful}
+use Rattle.hhbc_repo.specs.Truth.{Facts, AreTrue, IsFaithful}
 use Rattle.hhbc_repo.specs.Shapes.{Types}
 use Rattle.abstract_step.specs.State.{entry_state}
 use Rattle.func_analyze.specs.Solution.{IsLeast}
+use Rattle.func_analyze.specs.Rounds.{IsFacts}
 use Rattle.func_analyze.specs.Annotated.{IsAnnotated}
 use Rattle.func_analyze.specs.Chain.{chain, annotated_by}
 
@@ -23,3 +29,20 @@ ChainAnnotates = (r : Linked) → IsFirstForm r → (n : ℕ) → IsAnnotated (s
 -- the annotated repository runs as the original does, all its claims are true, and no run of either is stuck
 abbrev pub AnnotatedIsFaithful : Type 0
 AnnotatedIsFaithful = (r a : Linked) → IsFirstForm r → Types r → (n : ℕ) → IsAnnotated (suc n) r a → IsFaithful r a
+
+-- an operand that is an int is one of 64 bits, as those of each program are
+abbrev pub IsWord : Code → Type 0
+IsWord (kinds.Plain i) = FitsSigned w64 (int_of i.imms)
+IsWord (kinds.Member m) = Unit {0}
+
+abbrev pub AreWords : List Position → Type 0
+AreWords [] = Unit {0}
+AreWords (p ∷ ps) = IsWord p.code × AreWords ps
+
+-- a repository of the first form has one annotated repository
+abbrev pub AnnotatedIsUnique : Type 0
+AnnotatedIsUnique = (r a : Linked) (form : IsFirstForm r) → AreWords form.body.positions → (n : ℕ) → IsAnnotated (suc n) r a → a ≡ annotated_by r
+
+-- the facts after any number of rounds are true in every run
+abbrev pub FactsAreTrue : Type 0
+FactsAreTrue = (r : Linked) → IsFirstForm r → (n : ℕ) (F : Facts) → IsFacts (bare r) n F → AreTrue r F

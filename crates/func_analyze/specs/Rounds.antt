@@ -1,6 +1,5 @@
 -- Facts after rounds over all bodies.
-use Rattle.std.specs.Prelude.{◌≡◌, ◌⊎◌, ℕ, zero, suc, List, [], ◌∷◌, map, flat_map, Some, None, length, replicate, slice_get, Contains}
-use Rattle.hack_values.specs.declared.cell.Cell.{Cell}
+use Rattle.std.specs.Prelude.{◌≡◌, ◌⊎◌, ℕ, zero, suc, List, ◌∷◌, map, flat_map, Some, length, replicate, slice_get, Contains}
 use Rattle.type_lattice.specs.declared.types.HType.{HType}
 use Rattle.type_lattice.specs.declared.types.StrPart.TheVariants as strs
 use Rattle.type_lattice.specs.Types.{never, cell, literal}
@@ -11,7 +10,7 @@ use Rattle.hhbc_repo.specs.Linked.{Linked}
 use Rattle.hhbc_repo.specs.Bodies.{bodies, tree_of}
 use Rattle.hhbc_repo.specs.Truth.{Facts}
 use Rattle.abstract_step.specs.State.{State}
-use Rattle.abstract_step.specs.Flow.{Effect, flow}
+use Rattle.abstract_step.specs.Flow.{flow}
 use Rattle.func_analyze.specs.Solution.{Table, HasState, IsLeast}
 
 -- the types of the initial values of all properties, by number; a message begins as any string

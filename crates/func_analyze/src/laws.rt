@@ -1,6 +1,6 @@
 //! Laws of the definitions, each the contract of a function that does nothing.
 
-ghost use Rattle.func_analyze.specs.Laws.{AnnotatedIsFaithful, ChainAnnotates, ChainIsLeast};
+ghost use Rattle.func_analyze.specs.Laws.{AnnotatedIsFaithful, AnnotatedIsUnique, ChainAnnotates, ChainIsLeast, FactsAreTrue};
 
 /// The states along a body without jumps, each made from the one before it, are its least solution.
 pub fn chain_is_least()
@@ -17,4 +17,15 @@ pub fn chain_annotates()
 /// run of either is stuck.
 pub fn annotated_is_faithful()
     ensures { AnnotatedIsFaithful }
+{}
+
+/// A repository of the first form, whose ints are of 64 bits, has one annotated repository after any
+/// number of rounds from 1.
+pub fn annotated_is_unique()
+    ensures { AnnotatedIsUnique }
+{}
+
+/// The facts after any number of rounds are true in every run of a repository of the first form.
+pub fn facts_are_true()
+    ensures { FactsAreTrue }
 {}

@@ -3,4 +3,6 @@
 
 mod laws;
 
-pub use laws::{annotated_is_faithful, chain_annotates, chain_is_least};
+pub use laws::{
+    annotated_is_faithful, annotated_is_unique, chain_annotates, chain_is_least, facts_are_true,
+};

@@ -9,6 +9,9 @@ use std::alloc::Global;
 use std::marker::Model;
 
 /// A value. `Obj` holds the object's number in the heap.
+///
+/// To drop, copy, compare, weigh or show a value goes as deep as the value does, and no deeper: within
+/// the limit of depth, 64, that takes a bounded part of the machine's stack.
 #[cycle(cell)]
 #[derive(Debug, Drop)]
 pub enum Cell {

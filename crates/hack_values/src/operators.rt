@@ -68,7 +68,7 @@ const MAX_TEXT: usize = 1_048_576;
 /// The operator's value at two cells, the left one first. Only `Concat` takes memory.
 pub fn binary(alloc: Global, op: BinOp, a: &Cell, b: &Cell) -> Result<Cell, OpFault>
     ensures answer { IsAnswer result (op2 op a.now b.now) }
-    ensures in_place { op ≢ BinOp.Concat → result ≡ op2 op a.now b.now }
+    ensures without_memory { op ≢ BinOp.Concat → result ≡ op2 op a.now b.now }
 {
     match op {
         BinOp::Same => Ok(Cell::Bool(same(a, b))),
@@ -134,7 +134,7 @@ fn join(alloc: Global, first: &[u8], second: &[u8]) -> Result<Cell, OpFault>
 /// The operator's value at a cell. Only `CastString` takes memory.
 pub fn unary(alloc: Global, op: UnOp, a: &Cell) -> Result<Cell, OpFault>
     ensures answer { IsAnswer result (op1 op a.now) }
-    ensures in_place { op ≢ UnOp.CastString → result ≡ op1 op a.now }
+    ensures without_memory { op ≢ UnOp.CastString → result ≡ op1 op a.now }
 {
     match op {
         UnOp::Not => Ok(Cell::Bool(!truthy(a))),

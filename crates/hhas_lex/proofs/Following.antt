@@ -21,7 +21,7 @@ is_last (Str s) = false
 is_last (Mark b) = false
 is_last LessEqual = false
 
-followed-last : {A : Type 0} (t : Token) (x : A) (xs : List A) → is_last t ≡ true → followed t x xs ≡ x ∷ []
+pub followed-last : {A : Type 0} (t : Token) (x : A) (xs : List A) → is_last t ≡ true → followed t x xs ≡ x ∷ []
 followed-last End x xs e = refl
 followed-last Bad x xs e = refl
 followed-last (Directive s) x xs e = absurd (cc)
@@ -32,7 +32,7 @@ followed-last (Str s) x xs e = absurd (cc)
 followed-last (Mark b) x xs e = absurd (cc)
 followed-last LessEqual x xs e = absurd (cc)
 
-followed-on : {A : Type 0} (t : Token) (x : A) (xs : List A) → is_last t ≡ false → followed t x xs ≡ x ∷ xs
+pub followed-on : {A : Type 0} (t : Token) (x : A) (xs : List A) → is_last t ≡ false → followed t x xs ≡ x ∷ xs
 followed-on End x xs e = absurd (cc)
 followed-on Bad x xs e = absurd (cc)
 followed-on (Directive s) x xs e = refl

@@ -8,5 +8,9 @@ pub mod ByteTests
 pub mod Exact
 pub mod Grows
 pub mod Following
+pub mod Ending
 pub mod Spelled
+pub mod Touching
+pub mod Spacing
 pub mod Proper
+pub mod Pieced

@@ -13,6 +13,7 @@ use Rattle.hhas_lex.specs.Strings.{IsSmall, low_after, plain_after, step, given,
 use Rattle.hhas_lex.specs.Tokens.{token_of}
 use Rattle.hhas_lex.specs.Spelling.{is_byte, is_proper}
 use Rattle.hhas_lex.proofs.ByteTests.{both, either, neither, at_byte}
+use Rattle.hhas_lex.proofs.Quotes.{broken-stays}
 use Rattle.hhas_lex.proofs.Fronts.{split}
 
 -- ---- the bytes of a string's value
@@ -83,10 +84,6 @@ given-byte (Low high) b s n = low-byte high b (hex_value b) s refl
 given-byte Closed b s n = refl
 given-byte Broken b s n = refl
 
-broken-stays : (xs : List ℕ) → fold step Broken xs ≡ Broken
-broken-stays [] = refl
-broken-stays (x ∷ xs) = broken-stays xs
-
 all-append : (xs ys : List ℕ) → AllBytes xs → AllBytes ys → AllBytes (xs ++ ys)
 all-append [] ys h k = k
 all-append (x ∷ xs) ys h k =
@@ -104,7 +101,7 @@ value-bytes m (b ∷ bs) s h =
 and-true : (a b : Bool) → a ≡ true → b ≡ true → a && b ≡ true
 and-true a b e f = ap (λ c. c && b) e ∙ f
 
-when-some : (t : Bool) (j k : TokenKind) → when t j ≡ Some k → (t ≡ true) × (j ≡ k)
+pub when-some : (t : Bool) (j k : TokenKind) → when t j ≡ Some k → (t ≡ true) × (j ≡ k)
 when-some true j k e = (refl, cc)
 when-some false j k e = absurd (cc)
 

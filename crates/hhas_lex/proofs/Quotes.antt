@@ -32,7 +32,7 @@ length-value_of-more bs i size m h e s =
 pub mode-more : (bs : List ℕ) (i : ℕ) (m : Mode) → i < length bs → m ≡ fold step Plain (take i bs) → step m (get_or bs i 0) ≡ fold step Plain (take (i + 1) bs)
 mode-more bs i m h e = ap (λ (z : Mode). step z (get_or bs i 0)) e ∙ sym (fold_more step Plain bs i 0 h)
 
-broken-stays : (xs : List ℕ) → fold step Broken xs ≡ Broken
+pub broken-stays : (xs : List ℕ) → fold step Broken xs ≡ Broken
 broken-stays [] = refl
 broken-stays (x ∷ xs) = broken-stays xs
 

@@ -1,7 +1,6 @@
 -- What a token's spelling begins is read as that token.
-use Rattle.std.proofs.Common.{◌≡◌, ℕ, zero, suc, ◌+◌, ◌-◌, ◌*◌, ◌/◌, ◌%◌, ◌^◌, ◌<◌, ◌≤◌, refl, sym, ap, subst, ◌∙◌, Bool, true, false, if◌then◌else◌, ◌&&◌, ◌||◌, ◌==◌, nat_lt, nat_le, List, [], ◌∷◌, ◌++◌, length, take, drop, get_or, fold, Option, None, Some, pos, negsuc, neg_ℤ, append_assoc, append-nil, length-append, arith, inl, inr}
+use Rattle.std.proofs.Common.{◌≡◌, ℕ, zero, suc, ◌+◌, ◌-◌, ◌*◌, ◌/◌, ◌%◌, ◌^◌, ◌<◌, ◌≤◌, refl, sym, ap, subst, ◌∙◌, Bool, true, false, if◌then◌else◌, ◌&&◌, ◌||◌, ◌==◌, nat_lt, nat_le, List, [], ◌∷◌, ◌++◌, length, take, drop, get_or, fold, None, Some, pos, negsuc, neg_ℤ, append_assoc, append-nil, length-append, arith, inl, inr}
 use Rattle.std.specs.List.{list_all, flat_map}
-use Rattle.std.specs.Option.{option_map, option_to_list}
 use Rattle.std.specs.Fmt.{decimal}
 use Rattle.std.proofs.lemmas.List.{take_at, drop_at}
 use Rattle.std.proofs.lemmas.Bool.{leb-true, le-leb}
@@ -9,17 +8,17 @@ use Rattle.std.proofs.lemmas.Str.Parse.{IsNumeralModel, IsDigitsTest, numerals_b
 use Rattle.std.proofs.lemmas.Fmt.{decimal_digit, digits_decimal, digits_value-decimal, first_decimal}
 use Rattle.hhas_lex.specs.declared.token.TokenKind.{TokenKind}
 use Rattle.hhas_lex.specs.declared.token.TokenKind.TheVariants as kinds
-use Rattle.hhas_lex.specs.declared.strings.Mode.{Mode}
 use Rattle.hhas_lex.specs.declared.strings.Mode.TheVariants.{Plain, Closed}
 use Rattle.hhas_lex.specs.Bytes.{is_white, is_lower, is_word_start, is_word_byte, is_digit, is_mark, is_plain, is_name, hex_value, run_of, number_from}
 use Rattle.hhas_lex.specs.Fronts.{LongestFront}
 use Rattle.hhas_lex.specs.Shape.{scan, Scanned}
-use Rattle.hhas_lex.specs.Strings.{step, given, low_after, plain_after, closes, is_closed, value_from, value_of}
+use Rattle.hhas_lex.specs.Strings.{step, closes, is_closed, value_from, value_of}
 use Rattle.hhas_lex.specs.Tokens.{Token, Directive, Word, Local, Integer, Str, Mark, LessEqual, End, Bad, token_of, token_in, length_in, gap, gap_within, first, past_first, tokens}
 use Rattle.hhas_lex.specs.Spelling.{is_word, is_byte, is_string, is_proper, hex_digit, escaped, spelling, Stops, Apart}
-use Rattle.hhas_lex.proofs.ByteTests.{both, either, neither, at_byte, white_byte, mark_no_word, mark_no_digit, digit_no_word, digit_tests}
+use Rattle.hhas_lex.proofs.ByteTests.{both, either, at_byte, white_byte, mark_no_word, mark_no_digit, digit_no_word, digit_tests}
 use Rattle.hhas_lex.proofs.Fronts.{split, run_of-yes, run_of-no}
 use Rattle.hhas_lex.proofs.Scanning.{answer, number-first, word_scan, local-scan, directive_scan, suc-not-zero, zero_scan, positive_scan, negative-scan, string-scan, last-mark-scan, mark-scan, other-scan}
+use Rattle.hhas_lex.proofs.Pieced.{Stands, plain-stands, hex-stands}
 use Rattle.hhas_lex.proofs.Quotes.{closed-on}
 use Rattle.hhas_lex.proofs.Following.{is_last, tokens-on, tokens-last}
 
@@ -91,7 +90,7 @@ own : IsNumeralModel (λ ds. list_all is_digit ds ≡ true) (number_from 0)
 own = numerals_by_fold _ all-digits number_from (record { empty = λ n. refl; more = λ n c cs r. ap (λ z. number_from z cs) (omega arith) })
 
 -- the digits of a number but 0
-record Decimal (ds : List ℕ) (n : ℕ) : Type 0 where
+pub record Decimal (ds : List ℕ) (n : ℕ) : Type 0 where
   pub first : ℕ
   pub more : List ℕ
   pub are : ds ≡ first ∷ more
@@ -106,7 +105,7 @@ decimal-from (b ∷ ds) n a f v =
     let e = both (is_digit b) (list_all is_digit ds) a in
     record { first = b; more = ds; are = refl; low = f; high = (digit-range b e.0).1; digits = e.1; value = sym (number-first b ds) ∙ v }
 
-decimals : (n : ℕ) → 0 < n → n < 2 ^ 64 → Decimal (decimal n) n
+pub decimals : (n : ℕ) → 0 < n → n < 2 ^ 64 → Decimal (decimal n) n
 decimals n p h = decimal-from (decimal n) n (digits_decimal own n h) (first_decimal n p h) (digits_value-decimal own n h)
 
 positive-read : (ds rest : List ℕ) (n : ℕ) → Decimal ds n → n < 2 ^ 63 → Stops is_digit rest → scan (ds ++ rest) ≡ Some (kinds.Integer (pos n), length ds)
@@ -160,31 +159,13 @@ hex-back (suc (suc (suc (suc (suc (suc (suc (suc (suc (suc (suc (suc (suc (suc z
 hex-back (suc (suc (suc (suc (suc (suc (suc (suc (suc (suc (suc (suc (suc (suc (suc zero))))))))))))))) h = refl
 hex-back (suc (suc (suc (suc (suc (suc (suc (suc (suc (suc (suc (suc (suc (suc (suc (suc d)))))))))))))))) h = absurd (omega arith)
 
--- the bytes are read as this byte of the value
-record Stands (bytes : List ℕ) (b : ℕ) (xs : List ℕ) : Type 0 where
-  pub mode : fold step Plain (bytes ++ xs) ≡ fold step Plain xs
-  pub value : value_from Plain (bytes ++ xs) ≡ b ∷ value_from Plain xs
-
-plain-stands : (b : ℕ) (xs : List ℕ) → (b == 34 || b == 92) ≡ false → is_plain b ≡ true → Stands (b ∷ []) b xs
-plain-stands b xs e f =
-    let n = neither (b == 34) (b == 92) e in
-    let s : step Plain b ≡ Plain = rw (n.0, n.1, f) refl in
-    record {
-      mode = ap (λ (m : Mode). fold step m xs) s;
-      value = ap (λ (t : Bool). option_to_list (if t then None else Some b) ++ value_from (step Plain b) xs) e ∙ ap (λ (m : Mode). b ∷ value_from m xs) s;
-    }
-
-hex-stands : (high low b : ℕ) (xs : List ℕ) → high < 16 → low < 16 → 16 * high + low ≡ b → Stands (92 ∷ 120 ∷ hex_digit high ∷ hex_digit low ∷ []) b xs
-hex-stands high low b xs h l e =
-    let x = hex-back high h in
-    let y = hex-back low l in
-    record {
-      mode = ap (λ (o : Option ℕ). fold step (step (low_after o) (hex_digit low)) xs) x ∙ ap (λ (o : Option ℕ). fold step (plain_after o) xs) y;
-      value =
-          ap (λ (o : Option ℕ). option_to_list (given (low_after o) (hex_digit low)) ++ value_from (step (low_after o) (hex_digit low)) xs) x
-          ∙ ap (λ (o : Option ℕ). option_to_list (option_map (λ z. 16 * high + z) o) ++ value_from (plain_after o) xs) y
-          ∙ ap (λ z. z ∷ value_from Plain xs) e;
-    }
+hex-byte : (b : ℕ) (xs : List ℕ) → is_byte b ≡ true → Stands (92 ∷ 120 ∷ hex_digit (b / 16) ∷ hex_digit (b % 16) ∷ []) b xs
+hex-byte b xs h =
+    let e : 16 * (b / 16) + b % 16 ≡ b = omega arith in
+    let high = hex-back (b / 16) (omega (arith, leb-true (suc b) 256 h)) in
+    let low = hex-back (b % 16) (omega arith) in
+    subst (λ z. Stands (92 ∷ 120 ∷ hex_digit (b / 16) ∷ hex_digit (b % 16) ∷ []) z xs) e
+    (hex-stands (hex_digit (b / 16)) (hex_digit (b % 16)) xs (Some (b / 16)) (Some (b % 16)) high low refl)
 
 byte-stands : (b : ℕ) (xs : List ℕ) → is_byte b ≡ true → Stands (escaped b) b xs
 byte-stands b xs h =
@@ -195,9 +176,9 @@ byte-stands b xs h =
       | inr p ↦ at_byte (λ c. Stands (escaped c) c xs) b 92 (record { mode = refl; value = refl }) p
     ])
     (λ e2. split (is_plain b)
-    (λ e3. let s : escaped b ≡ b ∷ [] = rw (e1, e2, e3) refl in subst (λ l. Stands l b xs) (sym s) (plain-stands b xs e2 e3))
+    (λ e3. let s : escaped b ≡ b ∷ [] = rw (e1, e2, e3) refl in subst (λ l. Stands l b xs) (sym s) (plain-stands b xs e3 e2))
     (λ e3. let s : escaped b ≡ 92 ∷ 120 ∷ hex_digit (b / 16) ∷ hex_digit (b % 16) ∷ [] = rw (e1, e2, e3) refl in
-    subst (λ l. Stands l b xs) (sym s) (hex-stands (b / 16) (b % 16) b xs (omega (arith, leb-true (suc b) 256 h)) (omega arith) (omega arith)))))
+    subst (λ l. Stands l b xs) (sym s) (hex-byte b xs h))))
 
 record AllStand (s xs : List ℕ) : Type 0 where
   pub mode : fold step Plain (flat_map escaped s ++ xs) ≡ fold step Plain xs

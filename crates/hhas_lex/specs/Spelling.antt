@@ -1,5 +1,5 @@
 -- The canonical spelling of a token, and what may follow it.
-use Rattle.std.specs.Prelude.{◌≡◌, ℕ, ◌+◌, ◌/◌, ◌%◌, Bool, true, false, ◌||◌, ◌&&◌, ◌==◌, List, [], ◌∷◌, ◌++◌, length, nat_le, nat_lt, if◌then◌else◌}
+use Rattle.std.specs.Prelude.{◌≡◌, ℕ, ◌+◌, ◌/◌, ◌%◌, Bool, true, false, not, ◌||◌, ◌&&◌, ◌==◌, List, [], ◌∷◌, ◌++◌, length, nat_le, nat_lt, if◌then◌else◌}
 use Rattle.std.specs.List.{list_all, flat_map}
 use Rattle.std.specs.Fmt.{signed_decimal}
 use Rattle.hhas_lex.specs.Bytes.{is_lower, is_word_start, is_word_byte, is_digit, is_mark, is_plain, is_name}
@@ -66,3 +66,38 @@ Apart (Mark b) rest = Stops (λ c. b == 60 && c == 61) rest
 Apart LessEqual rest = Unit {0}
 Apart End rest = Unit {0}
 Apart Bad rest = Unit {0}
+
+-- whether its spelling begins with a byte that goes on with no word, directive or integer
+abbrev pub is_set_off : Token → Bool
+is_set_off (Directive letters) = true
+is_set_off (Local bytes) = true
+is_set_off (Str bytes) = true
+is_set_off (Mark b) = true
+is_set_off LessEqual = true
+is_set_off (Word bytes) = false
+is_set_off (Integer i) = false
+is_set_off End = false
+is_set_off Bad = false
+
+abbrev pub is_equals : Token → Bool
+is_equals (Mark b) = b == 61
+is_equals (Directive letters) = false
+is_equals (Local bytes) = false
+is_equals (Str bytes) = false
+is_equals LessEqual = false
+is_equals (Word bytes) = false
+is_equals (Integer i) = false
+is_equals End = false
+is_equals Bad = false
+
+-- whether the second may stand directly behind the first
+abbrev pub touches : Token → Token → Bool
+touches (Directive letters) next = is_set_off next
+touches (Word bytes) next = is_set_off next
+touches (Local bytes) next = is_set_off next
+touches (Integer i) next = is_set_off next
+touches (Str bytes) next = true
+touches (Mark b) next = not (b == 60 && is_equals next)
+touches LessEqual next = true
+touches End next = true
+touches Bad next = true

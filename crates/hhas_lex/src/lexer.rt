@@ -3,7 +3,7 @@
 ghost use Rattle.std.specs.Prelude.{◌≡◌, ◌≢◌, true, ◌+◌, ◌-◌, ◌≤◌, ◌<◌, ◌^◌, length, drop, IfOk, IfErr};
 ghost use Rattle.hhas_lex.specs.Shape.{IsTokenAt, NoToken};
 ghost use Rattle.hhas_lex.specs.Spelling.{is_proper};
-ghost use Rattle.hhas_lex.specs.Tokens.{Bad, front, front_place, behind, left, left_places, meaning, gap, gap_within};
+ghost use Rattle.hhas_lex.specs.Tokens.{Bad, front, front_place, behind, left, left_places, meaning, gap, places, tokens};
 
 use crate::bytes::is_white;
 use crate::scan::scan;
@@ -55,6 +55,8 @@ impl<'a> Lexer<'a> {
         requires { length text.now < 2 ^ 32 }
         ensures text { result.text ≡ text.now }
         ensures at { result.at ≡ 0 }
+        ensures left { left result ≡ tokens text.now }
+        ensures places { left_places result ≡ places 0 text.now }
     {
         Lexer { text, at: 0 }
     }

@@ -9,7 +9,10 @@ mod strings;
 mod token;
 mod value;
 
-pub use laws::spelled_tokens_are_read;
+pub use laws::{
+    neighbours_are_told_apart, spaced_tokens_are_read, spelled_tokens_are_read,
+    strings_are_their_pieces, tokens_end_once,
+};
 pub use lexer::Lexer;
 pub use token::{LexFault, Token, TokenKind};
 pub use value::string_value;

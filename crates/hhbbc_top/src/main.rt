@@ -10,6 +10,10 @@ mod writer;
 
 use hack_values::{NoMemory, Seq, Text};
 use hh_io::{StdSink, StdSource};
+
+#[cfg(test)]
+mod tests;
+
 pub use status::Status;
 use std::process::ExitCode;
 use std::{env, io};

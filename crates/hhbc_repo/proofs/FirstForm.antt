@@ -1,10 +1,10 @@
 -- Repositories of the first form: one body, and the built-in classes alone.
-use Rattle.std.proofs.Common.{◌≡◌, ◌⊎◌, inl, inr, ℕ, zero, suc, refl, sym, ◌∙◌, subst, Bool, true, false, ◌||◌, ◌==◌, Option, Some, None, List, [], ◌∷◌}
+use Rattle.std.proofs.Common.{◌≡◌, ◌⊎◌, inl, inr, ℕ, zero, suc, refl, sym, ◌∙◌, subst, Bool, true, false, ◌||◌, ◌==◌, [], ◌∷◌}
 use Rattle.std.proofs.lemmas.Bool.Decides.{Decides-eqb}
-use Rattle.type_lattice.specs.Classes.{Tree, below, has}
+use Rattle.type_lattice.specs.Classes.{below, has}
+use Rattle.type_lattice.proofs.Antisymmetry.{Antisymmetric}
 use Rattle.type_lattice.proofs.OrderLaws.{Transitive}
 use Rattle.hhbc_repo.specs.declared.body.Body.{Body}
-use Rattle.hhbc_repo.specs.declared.repo.Class.{Class}
 use Rattle.hhbc_repo.specs.Linked.{Linked}
 use Rattle.hhbc_repo.specs.Bodies.{built_in_tree}
 use Rattle.hhbc_repo.specs.Form.{IsFirstForm}
@@ -52,3 +52,11 @@ built_in_transitive a b c h k = by_case (below_built_in a b h)
     by_case : (b ≡ a) ⊎ (b ≡ 0) → below built_in_tree a c ≡ true
     by_case (inl e) = subst (λ x. below built_in_tree x c ≡ true) e k
     by_case (inr e) = either e (below_built_in 0 c (subst (λ x. below built_in_tree x c ≡ true) e k))
+
+pub built_in_antisymmetric : Antisymmetric built_in_tree
+built_in_antisymmetric a b h k = by_cases (below_built_in a b h) (below_built_in b a k)
+  where
+    by_cases : (b ≡ a) ⊎ (b ≡ 0) → (a ≡ b) ⊎ (a ≡ 0) → a ≡ b
+    by_cases (inl e) f = sym e
+    by_cases (inr e) (inl f) = f
+    by_cases (inr e) (inr f) = f ∙ sym e

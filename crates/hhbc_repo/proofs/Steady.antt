@@ -1,5 +1,5 @@
 -- No run of a repository of the first form that keeps to its shapes is stuck.
-use Rattle.std.proofs.Common.{◌≡◌, ◌↔◌, ℕ, zero, suc, ◌+◌, ◌-◌, ◌<◌, ◌≤◌, refl, sym, ◌∙◌, ap, subst, Bool, true, false, ◌==◌, nat_eq, nat_le, Option, Some, None, List, [], ◌∷◌, ◌++◌, map, replicate, slice_get, slice_set, length, cond, arith, length-append, leb-true}
+use Rattle.std.proofs.Common.{◌≡◌, ℕ, zero, suc, ◌+◌, ◌-◌, ◌<◌, ◌≤◌, refl, sym, ◌∙◌, ap, subst, Bool, true, false, ◌==◌, nat_eq, Option, Some, None, List, [], ◌∷◌, map, replicate, slice_get, slice_set, length, cond, arith, length-append, leb-true}
 use Rattle.std.specs.Cmp.Lexicographic.{pointwise}
 use Rattle.std.proofs.lemmas.Bool.Decides.{Decides-eqb}
 use Rattle.std.proofs.lemmas.Option.{slice_get-map}
@@ -21,18 +21,17 @@ use Rattle.hhbc_repo.specs.declared.body.Position.{Position}
 use Rattle.hhbc_repo.specs.declared.body.Assert.{Assert}
 use Rattle.hhbc_repo.specs.Linked.{Linked}
 use Rattle.hhbc_repo.specs.Bodies.{body_at, code_at, tree_of}
-use Rattle.hhbc_repo.specs.Bare.{bare, bare_body, bare_position}
-use Rattle.hhbc_repo.specs.Codes.{local_of, pops, pushes, op_pops, op_pushes, goes_on, op_goes_on}
-use Rattle.hhbc_repo.specs.Edges.{handler_of}
-use Rattle.hhbc_repo.specs.Form.{FitsOperands, FitsCode, FitPositions, IsFirstBody, IsFirstForm}
-use Rattle.hhbc_repo.specs.Outcome.{Place, Outcome, Returned, Uncaught, Fatal, AssertFalse, Steps, Stuck, UnknownEntry, WrongCount, Why}
-use Rattle.hhbc_repo.specs.Machine.{World, Frame, Turn, Goes, Calls, Returns, Raises, Ends, End, Fails, Sticks, with_cell, read_slot, name_or_none, perform, perform_code, turn_in, turn}
-use Rattle.hhbc_repo.specs.Steps.{Config, Running, Ended, place_of, handler_in, caught, uncaught, uncaught_cell, resume, unwind, finish, next}
-use Rattle.hhbc_repo.specs.Run.{test, asserts_in, asserts_of, tested, advance, after, entered, no_world, function_from, start_in, start, result_of}
+use Rattle.hhbc_repo.specs.Bare.{bare_body, bare_position}
+use Rattle.hhbc_repo.specs.Codes.{local_of, pops, pushes, op_pops, goes_on}
+use Rattle.hhbc_repo.specs.Form.{FitsOperands, FitsCode, FitPositions, IsFirstBody}
+use Rattle.hhbc_repo.specs.Outcome.{Place, Stuck, WrongCount, Why}
+use Rattle.hhbc_repo.specs.Machine.{World, Frame, Turn, Goes, Calls, Returns, Raises, Ends, Fails, Sticks, with_cell, read_slot, name_or_none, perform, perform_code, turn_in, turn}
+use Rattle.hhbc_repo.specs.Steps.{Config, Running, Ended, place_of, handler_in, caught, uncaught, uncaught_cell, finish, next}
+use Rattle.hhbc_repo.specs.Run.{test, asserts_in, asserts_of, tested, advance, after, entered, no_world, start_in, start, result_of}
 use Rattle.hhbc_repo.specs.Truth.{IsNeverStuck, FirstFormNeverSticks}
-use Rattle.hhbc_repo.specs.Shapes.{Shape, given, fault_at, Types}
+use Rattle.hhbc_repo.specs.Shapes.{given, Types}
 use Rattle.hhbc_repo.proofs.FirstForm.{only, first_is}
-use Rattle.hhbc_repo.proofs.Walking.{code_is, fits_at, there, given_next, decides, goes_within, stack_behind, asserts_none}
+use Rattle.hhbc_repo.proofs.Walking.{fits_at, there, given_next, decides, goes_within, stack_behind, asserts_none}
 
 -- each slot holds a cell
 abbrev pub AllHold : List Slot → Type 0
@@ -85,7 +84,7 @@ keeps_op count ops.SetL is b f w i h l d =
     keeps_cell f (plain ops.SetL is) w f.stack _ h d (λ x rest k e. (refl, refl, h, omega (arith, e), length_set f.locals (local_of is) (slots.Cell x), refl))
 keeps_op count ops.CGetL (imms.Local n ∷ []) b f w i h l d =
     keeps_local f (plain ops.CGetL (imms.Local n ∷ [])) w f.locals n (name_or_none (slice_get b.locals n)) _ (omega (arith, i, l))
-      (λ x. (refl, refl, h, omega arith, refl, refl))
+    (λ x. (refl, refl, h, omega arith, refl, refl))
 keeps_op count ops.CGetL _ b f w i h l d = absurd i
 keeps_op count ops.RetC is b f w i h l d = keeps_cell f (plain ops.RetC is) w f.stack _ h d (λ x rest k e. tt)
 
@@ -149,14 +148,16 @@ module _ (b : Body) (form : IsFirstBody b) (types : Types (only b)) where
       let d = stack_behind b form q.code (given b f.position) in
       let same : length f.stack ≡ length (given b f.position).stack = h.depth in
       let len : length g.stack ≡ length (given b (suc f.position)).stack =
-        rw n (k.3 ∙ ap (λ (m : ℕ). length (pushes q.code) + (m - length (pops q.code))) same ∙ sym d) in
-      (refl, record {
-        body = k.0 ∙ h.body;
-        within = rw k.1 i;
-        holds = k.2;
-        depth = rw k.1 len;
-        locals = k.4 ∙ h.locals;
-      })
+      rw n (k.3 ∙ ap (λ (m : ℕ). length (pushes q.code) + (m - length (pops q.code))) same ∙ sym d) in (
+        refl,
+        record {
+          body = k.0 ∙ h.body;
+          within = rw k.1 i;
+          holds = k.2;
+          depth = rw k.1 len;
+          locals = k.4 ∙ h.locals;
+        },
+      )
   steady_turn f q (Calls g v) h e k = absurd k
   steady_turn f q (Returns c v) h e k = λ why i. cc
   steady_turn f q (Raises c v) h e k =
@@ -173,7 +174,7 @@ module _ (b : Body) (form : IsFirstBody b) (types : Types (only b)) where
       let d = h.depth in
       let k = keeps_code (length b.locals) q.0.code (bare_body b) f w fits.fits h.holds h.locals (omega (arith, enough, d)) in
       subst (λ (t : Turn). Steady b (finish (only (bare_body b)) f [] t)) (sym (turn_is b f w q.0 h.body q.1))
-        (steady_turn f q.0 (perform_code (Some q.0.code) (bare_body b) f w) h q.1 k)
+      (steady_turn f q.0 (perform_code (Some q.0.code) (bare_body b) f w) h q.1 k)
 
   -- a position of the form has no assertions, so testing them changes nothing
   pub none_tested : (f : Frame) (w : World) (step : Config) → HasShape b f
@@ -182,13 +183,13 @@ module _ (b : Body) (form : IsFirstBody b) (types : Types (only b)) where
       let q = there b.positions f.position h.within in
       let fits = fits_at _ b.positions f.position q.0 form.positions q.1 in
       let none : asserts_of (only b) f ≡ [] =
-        ap (λ (o : Option Body). asserts_in o f.position) (only_at b f.body h.body) ∙ asserts_none b f.position q.0 q.1 fits.bare in
+      ap (λ (o : Option Body). asserts_in o f.position) (only_at b f.body h.body) ∙ asserts_none b f.position q.0 q.1 fits.bare in
       ap (λ (xs : List Assert). tested (test (tree_of (only b)) w.heap f xs) f w step) none
 
   steady_turns : (asserted : Bool) (c : Config) → Steady b c → Steady b (advance (only b) asserted c)
   steady_turns true (Running f fs w) h =
       subst (λ (fs : List Frame). Steady b (advance (only b) true (Running f fs w))) (sym h.0)
-        (subst (λ (c : Config). Steady b c) (sym (none_tested f w (next (only (bare_body b)) (Running f [] w)) h.1)) (steady_next f w h.1))
+      (subst (λ (c : Config). Steady b c) (sym (none_tested f w (next (only (bare_body b)) (Running f [] w)) h.1)) (steady_next f w h.1))
   steady_turns false (Running f fs w) h =
       subst (λ (fs : List Frame). Steady b (advance (only b) false (Running f fs w))) (sym h.0) (steady_next f w h.1)
   steady_turns true (Ended o w) h = h
@@ -212,14 +213,16 @@ module _ (b : Body) (form : IsFirstBody b) (types : Types (only b)) where
 
   steady_counted : (t : Bool) (args : List Cell) → (length args == b.params) ≡ t
       → Steady b (cond t (Running (entered 0 b args) [] no_world) (Ended WrongCount no_world))
-  steady_counted true args e =
-      (refl, record {
-        body = refl;
-        within = some_position b.positions _ form.positions;
-        holds = tt;
-        depth = refl;
-        locals = entered_locals args ((Decides-eqb (length args) b.params).0 e);
-      })
+  steady_counted true args e = (
+    refl,
+    record {
+      body = refl;
+      within = some_position b.positions _ form.positions;
+      holds = tt;
+      depth = refl;
+      locals = entered_locals args ((Decides-eqb (length args) b.params).0 e);
+    },
+  )
   steady_counted false args e = λ why i. cc
 
   steady_named : (t : Bool) (args : List Cell) → Steady b (start_in (cond t (Some (0, b)) None) args)
@@ -236,6 +239,6 @@ steady_result b (Ended o w) why h e = h why e
 pub first_form_never_sticks : FirstFormNeverSticks
 first_form_never_sticks r form types =
     subst (λ (r : Linked). IsNeverStuck r) (sym (first_is r form))
-      (λ entry args n asserted why legal e.
-        let t = subst (λ (r : Linked). Types r) (first_is r form) types in
-        steady_result form.body _ why (steady_after form.body form.first t asserted _ (steady_start form.body form.first t entry args) n) e)
+    (λ entry args n asserted why legal e.
+    let t = subst (λ (r : Linked). Types r) (first_is r form) types in
+    steady_result form.body _ why (steady_after form.body form.first t asserted _ (steady_start form.body form.first t entry args) n) e)

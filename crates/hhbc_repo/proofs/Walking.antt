@@ -1,5 +1,5 @@
 -- A repository of the first form keeps to its shapes exactly where no code reaches below the stack.
-use Rattle.std.proofs.Common.{◌≡◌, ◌≢◌, ◌↔◌, ℕ, zero, suc, ◌+◌, ◌-◌, ◌*◌, ◌<◌, ◌≤◌, max, refl, sym, ◌∙◌, ap, subst, Bool, true, false, not, ◌&&◌, ◌==◌, nat_le, nat_lt, Option, Some, None, List, [], ◌∷◌, ◌++◌, map, flat_map, slice_get, length, drop, cond, arith, length-append, length-drop, mul-le-mul, le-leb, ltb-true, ltb-false}
+use Rattle.std.proofs.Common.{◌≡◌, ◌≢◌, ◌↔◌, ℕ, zero, suc, ◌+◌, ◌-◌, ◌*◌, ◌<◌, ◌≤◌, refl, sym, ◌∙◌, ap, subst, Bool, true, false, ◌&&◌, ◌==◌, nat_le, nat_lt, Option, Some, None, List, [], ◌∷◌, ◌++◌, flat_map, slice_get, length, drop, cond, arith, length-append, length-drop, mul-le-mul, le-leb, ltb-true, ltb-false}
 use Rattle.std.proofs.lemmas.Bool.Decides.{Decides-eqb}
 use Rattle.hhbc_ops.specs.declared.op.Op.{Op}
 use Rattle.hhbc_ops.specs.declared.op.Op.TheVariants as ops
@@ -12,9 +12,9 @@ use Rattle.hhbc_repo.specs.declared.body.Position.{Position}
 use Rattle.hhbc_repo.specs.Linked.{Linked}
 use Rattle.hhbc_repo.specs.Bodies.{code_at, asserts_at}
 use Rattle.hhbc_repo.specs.Codes.{Flavour, C, U, labels_in, labels, op_pops, op_pushes, pops, pushes, throws, goes_on, op_goes_on}
-use Rattle.hhbc_repo.specs.Edges.{Edge, Next, To, Handler, handler_of, handler_edges, next_edges, edges_of, edges, target}
-use Rattle.hhbc_repo.specs.Form.{FitsOperands, FitsCode, FitsPosition, FitPositions, IsReturn, IsFirstBody, IsFirstForm}
-use Rattle.hhbc_repo.specs.Shapes.{Shape, Check, ShapeKind, Underflow, WrongFlavour, TooManyCells, given, given_after, given_by, shapes, handed, edge_to, after, behind, empty_shape, agree, same_flavour, same_flag, same_live, stack_checks, edge_checks, all_edge_checks, last_checks, checks, first_fault, fault_at, deepest, cells, reaches, pops_of, or_unled, Types}
+use Rattle.hhbc_repo.specs.Edges.{Edge, Next, handler_of, handler_edges, next_edges, edges_of, edges}
+use Rattle.hhbc_repo.specs.Form.{FitsOperands, FitsCode, FitsPosition, FitPositions, IsReturn, IsFirstBody}
+use Rattle.hhbc_repo.specs.Shapes.{Shape, Check, ShapeKind, Underflow, WrongFlavour, TooManyCells, given, given_after, given_by, shapes, edge_to, after, behind, agree, same_live, edge_checks, all_edge_checks, last_checks, first_fault, fault_at, deepest, cells, reaches, pops_of, Types}
 use Rattle.hhbc_repo.specs.Walks.{walks, TypesWhereItWalks}
 use Rattle.hhbc_repo.proofs.FirstForm.{only, first_is}
 
@@ -387,7 +387,8 @@ module _ (b : Body) (form : IsFirstBody b) where
   from_walks p (x ∷ []) h w (suc i) l = absurd (omega arith)
   from_walks p (x ∷ y ∷ ps) h w (suc i) l =
       let e : suc p + i ≡ p + suc i = omega arith in
-      let k = subst (λ d. walks d (y ∷ ps) ≡ true) (sym (depth_next p x y ps h)) (both _ _ w).1 in
+      let k : walks (length (given b (suc p)).stack) (y ∷ ps) ≡ true =
+      subst (λ d. walks d (y ∷ ps) ≡ true) (sym (depth_next p x y ps h)) (both (nat_le (length (pops x.code)) (length (given b p).stack)) _ w).1 in
       subst (λ n. fault_at b n ≡ None) e (from_walks (suc p) (y ∷ ps) (tail_of p x (y ∷ ps) h) k i (omega arith))
 
   found : (p : ℕ) (x : Position) (ps : List Position) → From p (x ∷ ps) → ((i : ℕ) → i < length (x ∷ ps) → fault_at b (p + i) ≡ None)

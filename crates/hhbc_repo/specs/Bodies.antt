@@ -1,5 +1,5 @@
 -- The parts of a repository by their numbers: classes, bodies, codes and properties.
-use Rattle.std.specs.Prelude.{◌≡◌, ℕ, zero, suc, ◌+◌, List, [], ◌∷◌, ◌++◌, Option, Some, None, map, option_map, flat_map, slice_get, length, codes, reverse}
+use Rattle.std.specs.Prelude.{ℕ, zero, suc, ◌+◌, List, [], ◌∷◌, ◌++◌, Option, Some, None, map, flat_map, slice_get, length, codes, reverse}
 use Rattle.type_lattice.specs.Classes.{Tree, chain}
 use Rattle.hhbc_repo.specs.declared.body.Body.{Body}
 use Rattle.hhbc_repo.specs.declared.body.Position.{Position}

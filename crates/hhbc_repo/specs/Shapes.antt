@@ -1,12 +1,12 @@
 -- What the stack looks like at each position, and which repositories keep to it.
-use Rattle.std.specs.Prelude.{◌≡◌, ◌≢◌, ◌<◌, ◌*◌, ◌+◌, ◌-◌, ℕ, zero, suc, max, Bool, true, false, ◌&&◌, not, nat_le, nat_lt, nat_eq, ◌==◌, List, [], ◌∷◌, ◌++◌, map, fold, length, take, drop, replicate, Option, Some, None, slice_get, if◌then◌else◌, Contains}
+use Rattle.std.specs.Prelude.{◌≡◌, ◌≢◌, ◌⊎◌, ◌<◌, ◌*◌, ◌+◌, ℕ, zero, suc, max, Bool, true, false, ◌&&◌, not, nat_le, nat_lt, ◌==◌, List, [], ◌∷◌, ◌++◌, length, drop, replicate, Option, Some, None, if◌then◌else◌}
 use Rattle.hhbc_repo.specs.declared.code.Code.{Code}
 use Rattle.hhbc_repo.specs.declared.body.Assert.{Assert}
 use Rattle.hhbc_repo.specs.declared.body.Assert.TheVariants as asserts
 use Rattle.hhbc_repo.specs.declared.body.Body.{Body}
 use Rattle.hhbc_repo.specs.declared.body.Region.{Region}
 use Rattle.hhbc_repo.specs.Linked.{Linked}
-use Rattle.hhbc_repo.specs.Bodies.{body_at, bodies, code_at, asserts_at}
+use Rattle.hhbc_repo.specs.Bodies.{body_at, code_at, asserts_at}
 use Rattle.hhbc_repo.specs.Codes.{Flavour, C, U, pops, pushes}
 use Rattle.hhbc_repo.specs.Edges.{Edge, Next, To, Handler, target, edges}
 
@@ -172,3 +172,15 @@ fault_at b p = first_fault (checks b p)
 pub record Types (r : Linked) : Type 0 where
   pub has_positions : (n : ℕ) (b : Body) → body_at r n ≡ Some b → b.positions ≢ []
   pub passes : (n : ℕ) (b : Body) → body_at r n ≡ Some b → (p : ℕ) → p < length b.positions → fault_at b p ≡ None
+
+-- the check that fails at a position; a body without positions falls off at its first one
+abbrev pub FailsAt : Body → ℕ → ShapeKind → Type 0
+FailsAt b p kind = ((b.positions ≡ []) × (p ≡ 0) × (kind ≡ FallsOff)) ⊎ ((p < length b.positions) × (fault_at b p ≡ Some kind))
+
+-- the first fault: the first body, in it the first position, and there the first check that fails
+pub record IsFirstFault (r : Linked) (n p : ℕ) (kind : ShapeKind) : Type 0 where
+  pub body : Body
+  pub at : body_at r n ≡ Some body
+  pub fails : FailsAt body p kind
+  pub earlier_positions : (q : ℕ) → q < p → fault_at body q ≡ None
+  pub earlier_bodies : (m : ℕ) (b : Body) → m < n → body_at r m ≡ Some b → (q : ℕ) (other : ShapeKind) → FailsAt b q other → ⊥

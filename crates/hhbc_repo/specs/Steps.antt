@@ -1,5 +1,5 @@
 -- What a turn does to the frames: calls, returns and exceptions.
-use Rattle.std.specs.Prelude.{ℕ, suc, Bool, true, false, nat_le, List, [], ◌∷◌, ◌++◌, Option, Some, None, option_map, slice_get, length, drop, if◌then◌else◌}
+use Rattle.std.specs.Prelude.{ℕ, suc, nat_le, List, [], ◌∷◌, Option, Some, None, option_map, slice_get, length, drop, if◌then◌else◌}
 use Rattle.hack_values.specs.declared.cell.Cell.{Cell}
 use Rattle.hack_values.specs.declared.cell.Cell.TheVariants as cells
 use Rattle.hack_values.specs.declared.cell.Slot.TheVariants as slots

@@ -1,5 +1,5 @@
 -- Facts and claims that are true in every run.
-use Rattle.std.specs.Prelude.{◌≡◌, ◌≤◌, ◌+◌, ℕ, suc, Bool, true, false, List, Option, Some, None, slice_get, map, ◌++◌, [], ◌∷◌, flat_map, length, All}
+use Rattle.std.specs.Prelude.{◌≡◌, ◌≤◌, ℕ, Bool, true, false, List, Option, Some, None, slice_get, map, ◌∷◌, flat_map, All}
 use Rattle.hack_values.specs.declared.cell.Cell.{Cell}
 use Rattle.hack_values.specs.Val.{weight, depth}
 use Rattle.hack_values.specs.View.{val_of}
@@ -7,7 +7,6 @@ use Rattle.hack_values.specs.Limits.{max_weight, max_depth}
 use Rattle.hack_values.specs.Objects.{no_object}
 use Rattle.hack_values.specs.declared.heap.Object.{Object}
 use Rattle.type_lattice.specs.declared.types.HType.{HType}
-use Rattle.type_lattice.specs.Types.{cell}
 use Rattle.type_lattice.specs.Member.{Heap, cell_in}
 use Rattle.hhbc_repo.specs.declared.body.Body.{Body}
 use Rattle.hhbc_repo.specs.declared.repo.Class.{Class}
@@ -18,9 +17,9 @@ use Rattle.hhbc_repo.specs.Bare.{bare}
 use Rattle.hhbc_repo.specs.Form.{IsFirstForm}
 use Rattle.hhbc_repo.specs.Shapes.{Types}
 use Rattle.hhbc_repo.specs.Outcome.{Why, Stuck}
-use Rattle.hhbc_repo.specs.Machine.{World, Frame, Turn, Returns, turn}
+use Rattle.hhbc_repo.specs.Machine.{World, Frame, Returns, turn}
 use Rattle.hhbc_repo.specs.Steps.{Config, Running, Ended}
-use Rattle.hhbc_repo.specs.Run.{test, asserts_of, state_after, run, Result}
+use Rattle.hhbc_repo.specs.Run.{test, asserts_of, state_after, run}
 
 -- a cell that a run may be given: it holds no object, and is within the limits of weight and depth
 pub record IsArgument (c : Cell) : Type 0 where

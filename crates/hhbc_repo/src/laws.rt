@@ -13,5 +13,4 @@ pub fn types_where_it_walks()
 /// flavour or a wrong iterator.
 pub fn first_form_never_sticks()
     ensures { FirstFormNeverSticks }
-{
-}
+{}

@@ -9,9 +9,9 @@ mod repo;
 
 pub use body::{Assert, Body, Position, Region};
 pub use code::{Arm, Base, Code, Final, Imm, Instr, MemberKey, MemberSeq};
+pub use laws::{first_form_never_sticks, types_where_it_walks};
 pub use parts::{
     ArmParts, AssertParts, BaseParts, BodyParts, ClassParts, CodeParts, FinalParts, ImmParts,
     InstrParts, ItemParts, MemberKeyParts, MemberSeqParts, PositionParts, PropertyParts, TypeParts,
 };
-pub use laws::{first_form_never_sticks, types_where_it_walks};
 pub use repo::{Class, Const, Property, Repo};

@@ -1,5 +1,5 @@
 -- A member of a type is one of each type above it, and a type with a member has a part.
-use Rattle.std.proofs.Common.{◌≡◌, ℕ, ℤ, zero, suc, refl, sym, ◌∙◌, subst, Bool, true, false, not, ◌&&◌, ◌==◌, Option, Some, None, List, [], ◌∷◌}
+use Rattle.std.proofs.Common.{◌≡◌, ℕ, ℤ, refl, Bool, true, false, not, ◌&&◌, Option, Some, None, List, [], ◌∷◌}
 use Rattle.std.proofs.lemmas.Bool.Decides.{Decides-eqb}
 use Rattle.hack_values.specs.declared.cell.Cell.{Cell}
 use Rattle.hack_values.specs.declared.cell.Cell.TheVariants as cells
@@ -20,7 +20,7 @@ use Rattle.type_lattice.specs.declared.types.ObjPart.{ObjPart}
 use Rattle.type_lattice.specs.declared.types.ObjPart.TheVariants as objs
 use Rattle.type_lattice.specs.Classes.{Tree, below}
 use Rattle.type_lattice.specs.Order.{FlagLe, IntLe, StrLe, ObjLe, PartLe, LeafLe, EntryLe, Le}
-use Rattle.type_lattice.specs.Types.{short_bytes, initialised, cell, cell_leaf, key_leaf}
+use Rattle.type_lattice.specs.Types.{initialised, cell, cell_leaf, key_leaf}
 use Rattle.type_lattice.specs.Never.{no_ints, no_strs, no_objs, is_absent, is_never, all_alive}
 use Rattle.type_lattice.specs.Member.{Heap, in_leaf, key_in, vec_in, dict_in, keyset_in, int_in, str_in, is_class, is_below, obj_in, class_at, cell_in, is_member, AreMembers}
 use Rattle.type_lattice.proofs.OrderLaws.{Transitive}

@@ -1,5 +1,5 @@
 -- The order of types is reflexive, and transitive where the order of classes is.
-use Rattle.std.proofs.Common.{◌≡◌, ℕ, zero, suc, refl, sym, ◌∙◌, subst, Bool, true, false, ◌||◌, ◌==◌, IsTrue, Option, Some, None, List, [], ◌∷◌, length}
+use Rattle.std.proofs.Common.{◌≡◌, ℕ, zero, suc, refl, sym, ◌∙◌, subst, Bool, true, false, ◌==◌, Option, Some, None, length}
 use Rattle.std.proofs.lemmas.Bool.Decides.{Decides-eqb}
 use Rattle.type_lattice.specs.declared.types.HType.{HType}
 use Rattle.type_lattice.specs.declared.types.Leaf.{Leaf}
@@ -9,7 +9,7 @@ use Rattle.type_lattice.specs.declared.types.StrPart.{StrPart}
 use Rattle.type_lattice.specs.declared.types.StrPart.TheVariants as strs
 use Rattle.type_lattice.specs.declared.types.ObjPart.{ObjPart}
 use Rattle.type_lattice.specs.declared.types.ObjPart.TheVariants as objs
-use Rattle.type_lattice.specs.Classes.{Tree, below, chain_within, chain_on, parent_of, has}
+use Rattle.type_lattice.specs.Classes.{Tree, below, chain_within, has}
 use Rattle.type_lattice.specs.Order.{FlagLe, IntLe, StrLe, ObjLe, LeafLe, PartLe, EntryLe, Le}
 
 -- what is below something below a class is below the class

@@ -1,5 +1,5 @@
 -- The type of all cells is below the types that are whole, and below no others.
-use Rattle.std.proofs.Common.{◌≡◌, refl, Bool, true, false, ◌&&◌, Option, Some, None}
+use Rattle.std.proofs.Common.{◌≡◌, refl, Bool, true, ◌&&◌, Option, Some, None}
 use Rattle.type_lattice.specs.declared.types.IntPart.{IntPart}
 use Rattle.type_lattice.specs.declared.types.IntPart.TheVariants as ints
 use Rattle.type_lattice.specs.declared.types.StrPart.{StrPart}
@@ -9,7 +9,7 @@ use Rattle.type_lattice.specs.declared.types.ObjPart.TheVariants as objs
 use Rattle.type_lattice.specs.declared.types.Leaf.{Leaf}
 use Rattle.type_lattice.specs.declared.types.HType.{HType}
 use Rattle.type_lattice.specs.Classes.{Tree}
-use Rattle.type_lattice.specs.Order.{FlagLe, IntLe, StrLe, ObjLe, PartLe, LeafLe, EntryLe, Le}
+use Rattle.type_lattice.specs.Order.{IntLe, StrLe, ObjLe, PartLe, LeafLe, EntryLe, Le}
 use Rattle.type_lattice.specs.Types.{cell, cell_leaf, key_leaf}
 use Rattle.type_lattice.specs.Whole.{all_ints, all_strs, all_objs, whole_key, whole_leaf, whole_entry, part_is, is_whole}
 use Rattle.type_lattice.proofs.Members.{both_true}

@@ -1,5 +1,5 @@
 -- Classes below others. A tree is a list with the parent of each class, where it has one.
-use Rattle.std.specs.Prelude.{ℕ, zero, suc, Bool, true, false, List, [], ◌∷◌, Option, Some, None, length, slice_get, ◌==◌, ◌||◌}
+use Rattle.std.specs.Prelude.{ℕ, zero, suc, Bool, false, List, [], ◌∷◌, Option, Some, None, length, slice_get, ◌==◌, ◌||◌}
 
 abbrev pub Tree : Type 0
 Tree = List (Option ℕ)

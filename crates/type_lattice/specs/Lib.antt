@@ -3,6 +3,6 @@ pub mod Member
 pub mod Never
 pub mod Order
 pub mod Proper
-pub mod Types
 pub mod TypeText
+pub mod Types
 pub mod Whole

@@ -1,5 +1,5 @@
 -- Types without members.
-use Rattle.std.specs.Prelude.{ℕ, Bool, true, false, not, ◌&&◌, Option, Some, None, List, [], ◌∷◌}
+use Rattle.std.specs.Prelude.{◌≡◌, ◌↔◌, Bool, true, false, not, ◌&&◌, Option, Some, None, List, [], ◌∷◌}
 use Rattle.type_lattice.specs.declared.types.IntPart.{IntPart}
 use Rattle.type_lattice.specs.declared.types.IntPart.TheVariants as ints
 use Rattle.type_lattice.specs.declared.types.StrPart.{StrPart}
@@ -7,6 +7,7 @@ use Rattle.type_lattice.specs.declared.types.StrPart.TheVariants as strs
 use Rattle.type_lattice.specs.declared.types.ObjPart.{ObjPart}
 use Rattle.type_lattice.specs.declared.types.ObjPart.TheVariants as objs
 use Rattle.type_lattice.specs.declared.types.HType.{HType}
+use Rattle.type_lattice.specs.Types.{never}
 
 abbrev pub no_ints : IntPart → Bool
 no_ints ints.No = true
@@ -38,3 +39,7 @@ is_never t =
 abbrev pub all_alive : List HType → Bool
 all_alive [] = true
 all_alive (t ∷ ts) = not (is_never t) && all_alive ts
+
+-- the type without members alone has no part
+abbrev pub NeverIsNever : Type 0
+NeverIsNever = (t : HType) → (is_never t ≡ true) ↔ (t ≡ never)

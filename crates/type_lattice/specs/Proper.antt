@@ -1,5 +1,5 @@
 -- Types that a program can state.
-use Rattle.std.specs.Prelude.{◌≡◌, ◌<◌, ◌≤◌, ◌-◌, ℕ, false, List, Option, Some, None, length, drop, replicate, All, FitsSigned}
+use Rattle.std.specs.Prelude.{◌≡◌, ◌<◌, ◌≤◌, ◌-◌, false, Option, Some, None, length, drop, replicate, All, FitsSigned}
 use Rattle.std.proofs.Common.{w64}
 use Rattle.type_lattice.specs.declared.types.IntPart.{IntPart}
 use Rattle.type_lattice.specs.declared.types.IntPart.TheVariants as ints

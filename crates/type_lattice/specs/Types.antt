@@ -1,5 +1,5 @@
 -- Single types: the one without members, that of all cells, and those of literals.
-use Rattle.std.specs.Prelude.{◌≡◌, ℕ, Bool, true, false, Option, Some, None, List, ◌++◌, ◌-◌, take, length, replicate, nat_le, if◌then◌else◌}
+use Rattle.std.specs.Prelude.{ℕ, true, false, Some, None, List, ◌++◌, ◌-◌, take, length, replicate, nat_le, if◌then◌else◌}
 use Rattle.type_lattice.specs.declared.types.IntPart.TheVariants as ints
 use Rattle.type_lattice.specs.declared.types.StrPart.{StrPart}
 use Rattle.type_lattice.specs.declared.types.StrPart.TheVariants as strs

@@ -7,7 +7,7 @@ mod order;
 mod text;
 mod types;
 
-pub use laws::whole_is_above_cell;
+pub use laws::{never_is_never, whole_is_above_cell};
 pub use literal::of_literal;
 pub use order::le;
 pub use text::type_text;

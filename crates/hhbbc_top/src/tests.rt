@@ -1,0 +1,180 @@
+use crate::{Status, hhbbc};
+use hack_values::{Seq, Text};
+use hh_io::{MemSink, MemSource};
+use std::alloc::Global;
+use std::process::Abort;
+use std::test::Fail;
+
+const WORDS: [&[u8]; 1] = [b"analyze"];
+
+const FIRST: &[u8] =
+    b".profile 1;\n.function main() {\n  .declvars $x;\n  Int 2\n  SetL $x\n  PopC\n  CGetL $x\n  RetC\n}\n";
+
+const FIRST_ANNOTATED: &[u8] =
+    b".profile 1;\n.function main() .returns Int=2 {\n  .declvars $x;\n  Int 2\n  AssertRATStk 0 Int=2\n  SetL $x\n  AssertRATStk 0 Int=2\n  PopC\n  AssertRATL $x Int=2\n  CGetL $x\n  AssertRATStk 0 Int=2\n  RetC\n}\n";
+
+const NEVER_SET: &[u8] =
+    b".profile 1;\n.function main() {\n  .declvars $x;\n  CGetL $x\n  RetC\n}\n";
+
+const NEVER_SET_ANNOTATED: &[u8] =
+    b".profile 1;\n.function main() .returns Never {\n  .declvars $x;\n  AssertRATL $x Uninit\n  CGetL $x\n  RetC\n}\n";
+
+fn numbers(alloc: Global, items: &[u64]) -> Result<Seq<u64>, Fail> {
+    let mut list = Seq::new(alloc);
+    for item in items {
+        list.push(*item)?;
+    }
+    Ok(list)
+}
+
+fn texts(alloc: Global, items: &[&[u8]]) -> Result<Seq<Text>, Fail> {
+    let mut list = Seq::new(alloc);
+    for item in items {
+        list.push(Text::from_bytes(alloc, item)?)?;
+    }
+    Ok(list)
+}
+
+/// The calls that fail: of the source, of standard output, and of standard error.
+#[derive(Clone, Copy)]
+struct Failing {
+    source: &'static [u64],
+    out: &'static [u64],
+    err: &'static [u64],
+}
+
+const NONE: Failing = Failing {
+    source: &[],
+    out: &[],
+    err: &[],
+};
+
+/// One call of the program, whose status and bytes are as wanted.
+fn expect(
+    rt: &impl Abort,
+    alloc: Global,
+    words: &[&[u8]],
+    text: &[u8],
+    failing: Failing,
+    wanted: (Status, &[u8], &[u8]),
+) -> Result<(), Fail> {
+    let words = texts(alloc, words)?;
+    let mut source = MemSource::new(
+        Text::from_bytes(alloc, text)?,
+        numbers(alloc, failing.source)?,
+    );
+    let mut out = MemSink::new(alloc, 4096, numbers(alloc, failing.out)?)?;
+    let mut err = MemSink::new(alloc, 64, numbers(alloc, failing.err)?)?;
+    let status = hhbbc(alloc, words.as_slice(), &mut source, &mut out, &mut err);
+    assert_eq!(rt; status, wanted.0);
+    assert_eq!(rt; out.bytes(), wanted.1);
+    assert_eq!(rt; err.bytes(), wanted.2);
+    Ok(())
+}
+
+#[test]
+fn texts_of_the_first_form_are_annotated(rt: HostRuntime) -> Result<(), Fail> {
+    for (text, annotated) in [(FIRST, FIRST_ANNOTATED), (NEVER_SET, NEVER_SET_ANNOTATED)] {
+        expect(
+            &rt,
+            rt.alloc(),
+            &WORDS,
+            text,
+            NONE,
+            (Status::Done, annotated, b""),
+        )?;
+    }
+    Ok(())
+}
+
+#[test]
+fn early_answers(rt: HostRuntime) -> Result<(), Fail> {
+    let read_fails = Failing {
+        source: &[0],
+        ..NONE
+    };
+    let late_read_fails = Failing {
+        source: &[1000],
+        ..NONE
+    };
+    let out_fails = Failing { out: &[0], ..NONE };
+    let err_fails = Failing { err: &[0], ..NONE };
+    for (words, text, failing, wanted) in [
+        (
+            WORDS.as_slice(),
+            b"".as_slice(),
+            NONE,
+            (Status::NotYet, b"".as_slice(), b"not yet\n".as_slice()),
+        ),
+        (
+            &WORDS,
+            FIRST,
+            read_fails,
+            (Status::ReadFault, b"", b"read fault\n"),
+        ),
+        (&WORDS, FIRST, out_fails, (Status::WriteFault, b"", b"")),
+        (
+            &WORDS,
+            FIRST,
+            late_read_fails,
+            (Status::Done, FIRST_ANNOTATED, b""),
+        ),
+        ([].as_slice(), FIRST, NONE, (Status::Usage, b"", b"usage\n")),
+        (
+            [b"analyse".as_slice()].as_slice(),
+            FIRST,
+            NONE,
+            (Status::Usage, b"", b"usage\n"),
+        ),
+        (
+            [b"analyze".as_slice(), b""].as_slice(),
+            FIRST,
+            NONE,
+            (Status::Usage, b"", b"usage\n"),
+        ),
+        (
+            [].as_slice(),
+            FIRST,
+            err_fails,
+            (Status::WriteFault, b"", b""),
+        ),
+    ] {
+        expect(&rt, rt.alloc(), words, text, failing, wanted)?;
+    }
+    Ok(())
+}
+
+#[test]
+fn other_forms_are_not_yet(rt: HostRuntime) -> Result<(), Fail> {
+    for text in [
+        b".profile 1;".as_slice(),
+        b".profile 2;.function main(){Null RetC}",
+        b".profile 1;.function other(){Null RetC}",
+        b".profile 1;.function main($x){Null RetC}",
+        b".profile 1;.function main(){Null RetC}.function f(){Null RetC}",
+        b".profile 1;.function main(){RetC}",
+        b".profile 1;.function main(){Null Null}",
+        b".profile 1;.function main(){Null RetC Null RetC}",
+        b".profile 1;.function main(){.numiters 0;Null RetC}",
+        b".profile 1;.function main() .returns Cell {Null RetC}",
+        b".profile 1;.function main(){AssertRATStk 0 Cell Null RetC}",
+        b".profile 1;.function main(){CGetL $x RetC}",
+        b".profile 1;.function main(){.declvars $x, $x;CGetL $x RetC}",
+        b".profile 1;.function main(){.declvars;Null RetC}",
+        b".profile 1;.function main(){L: Null RetC}",
+        b".profile 1;.function main(){Int 9223372036854775808 RetC}",
+        b".profile 1;.function main(){Null RetC} # a comment",
+        b".profile 1;.function main(){String \"a\" RetC}",
+        b".profile 1;.function main(){Null RetC} \"",
+    ] {
+        expect(
+            &rt,
+            rt.alloc(),
+            &WORDS,
+            text,
+            NONE,
+            (Status::NotYet, b"", b"not yet\n"),
+        )?;
+    }
+    Ok(())
+}
