@@ -4,7 +4,7 @@ pub mod LocalNames
 pub mod CodeLists
 pub mod ReadingSound
 pub mod ReadingComplete
-pub mod FirstTexts
+pub mod Headline
 pub mod TokenLists
 pub mod Names
 pub mod Coding

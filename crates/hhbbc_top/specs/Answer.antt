@@ -4,14 +4,13 @@ use Rattle.std.specs.Io.KnownBytes.{IsAtEnd}
 use Rattle.hh_io.specs.Counts.{Rose}
 use Rattle.hh_io.specs.Sources.{IsLonger, IsWithin}
 use Rattle.hh_io.specs.Sinks.{Takes, TakesNothing, TakesPart}
+use Rattle.hhbc_repo.specs.Linked.{Linked}
 use Rattle.hhbc_repo.specs.Text.{text}
-use Rattle.func_analyze.specs.Chain.{annotated_by}
+use Rattle.hhbc_repo.specs.Truth.{IsFaithful}
+use Rattle.func_analyze.specs.Annotated.{IsAnnotated}
 use Rattle.hhbbc_top.specs.declared.status.Status.{Status}
 use Rattle.hhbbc_top.specs.declared.status.Status.TheVariants.{Done, Usage, TooLong, NoMemory, NotYet, ReadFault, WriteFault}
-use Rattle.hhbbc_top.specs.declared.form.Main.{Main}
-use Rattle.hhbbc_top.specs.FirstText.{limit}
-use Rattle.hhbbc_top.specs.Forms.{repo_of}
-use Rattle.hhbbc_top.specs.Reading.{main_of}
+use Rattle.hhbbc_top.specs.FirstText.{limit, IsFirstText}
 
 -- the number that the process ends with
 abbrev pub number_of : Status → ℕ
@@ -37,17 +36,23 @@ line_of WriteFault = []
 abbrev pub analyze : List (List ℕ)
 analyze = codes "analyze" ∷ []
 
--- the canonical text of a function, annotated
-abbrev pub annotated_text : Main → List ℕ
-annotated_text m = text (annotated_by (repo_of m))
+-- how often the facts are made anew
+abbrev pub rounds : ℕ
+rounds = 10
 
--- the annotated text of a text of the first form
-abbrev pub IsAnnotatedText : List ℕ → List ℕ → Type 0
-IsAnnotatedText bytes out = (m : Main) × (main_of bytes ≡ Some m) × (out ≡ annotated_text m)
+-- the canonical text of the repository of a text of the first form, annotated; it runs as the text's own repository does, its
+-- claims are true in every run, and no run of either is stuck
+pub record IsAnnotatedText (bytes out : List ℕ) : Type 0 where
+  pub repo : Linked
+  pub first : IsFirstText bytes repo
+  pub annotated : Linked
+  pub is : IsAnnotated rounds repo annotated
+  pub faithful : IsFaithful repo annotated
+  pub written : out ≡ text annotated
 
 -- it isn't of the first form
 abbrev pub IsOtherText : List ℕ → Type 0
-IsOtherText bytes = main_of bytes ≡ None
+IsOtherText bytes = (r : Linked) → IsFirstText bytes r → ⊥
 
 -- when a status comes, and what is to be written to standard output: from the words, what the source had left and has left
 -- now, and its count of faults before and now. Memory may be wanting wherever a text is read.

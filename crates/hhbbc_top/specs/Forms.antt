@@ -9,6 +9,8 @@ use Rattle.hhbc_repo.specs.declared.code.Code.TheVariants as kinds
 use Rattle.hhbc_repo.specs.declared.body.Body.{Body}
 use Rattle.hhbc_repo.specs.declared.body.Position.{Position}
 use Rattle.hhbc_repo.specs.Linked.{Linked}
+use Rattle.hhbc_repo.specs.Text.{text}
+use Rattle.func_analyze.specs.Chain.{annotated_by}
 use Rattle.abstract_step.specs.State.{State}
 use Rattle.hhbbc_top.specs.declared.form.Step.{Step}
 use Rattle.hhbbc_top.specs.declared.form.Step.TheVariants as steps
@@ -54,3 +56,7 @@ state_of t = record { locals = t.locals.items; stack = reverse t.stack.items; it
 abbrev pub if_reached : Bool → State → Option State
 if_reached true s = Some s
 if_reached false s = None
+
+-- the canonical text of a function, annotated along its codes
+abbrev pub annotated_text : Main → List ℕ
+annotated_text m = text (annotated_by (repo_of m))

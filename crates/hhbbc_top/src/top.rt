@@ -6,12 +6,14 @@ ghost use Rattle.hh_io.specs.Counts.{Rose};
 ghost use Rattle.hh_io.specs.Sources.{IsLonger, IsWithin, ReadsPerByte};
 ghost use Rattle.hh_io.specs.Sinks.{Takes, TakesPart};
 ghost use Rattle.hhbbc_top.specs.Answer as answers;
+ghost use Rattle.hhbbc_top.specs.Forms.{annotated_text};
 
 use crate::annotation::annotated;
-use crate::form::{Main, read};
+use crate::form::{Main, read, reading_is_complete, reading_is_sound};
 use crate::reader::ReadFault;
 use crate::status::{Status, line_of};
 use crate::writer::text_of;
+use func_analyze::{annotated_is_faithful, chain_annotates};
 use hack_values::{NoMemory, Text};
 use hh_io::{ReadError, Sink, Source, read_all, write_all};
 use std::alloc::Global;
@@ -95,6 +97,10 @@ fn answer_of(alloc: Global, text: &[u8]) -> Result<Text, Status>
     requires { length text.now ≤ LIMIT }
     ensures { MatchResult result (answers.IsAnnotatedText text.now) (λ s. ((s ≡ Status.NotYet) × answers.IsOtherText text.now) ⊎ (s ≡ Status.NoMemory)) }
 {
+    reading_is_sound();
+    reading_is_complete();
+    chain_annotates();
+    annotated_is_faithful();
     match read(alloc, text) {
         Ok(main) => written(alloc, main),
         Err(ReadFault::OtherForm) => Err(Status::NotYet),
@@ -103,7 +109,7 @@ fn answer_of(alloc: Global, text: &[u8]) -> Result<Text, Status>
 }
 
 fn written(alloc: Global, main: Main) -> Result<Text, Status>
-    ensures { MatchResult result (λ out. out ≡ answers.annotated_text main) (λ s. s ≡ Status.NoMemory) }
+    ensures { MatchResult result (λ out. out ≡ annotated_text main) (λ s. s ≡ Status.NoMemory) }
 {
     let Ok(repo) = annotated(alloc, main) else {
         return Err(Status::NoMemory);

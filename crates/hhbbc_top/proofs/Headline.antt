@@ -1,0 +1,57 @@
+-- What the laws say of a text that was read, and of one that wasn't.
+use Rattle.std.proofs.Common.{◌≡◌, ◌≤◌, ◌⊎◌, inl, inr, ℕ, refl, sym, ◌∙◌, ap, subst, List, [], ◌∷◌, ◌++◌, append-nil, Option, Some, None, Result, Ok, Err, length}
+use Rattle.std.specs.Prelude.{MatchResult, IfSome}
+use Rattle.std.specs.Io.KnownBytes.{Consumes, IsAtEnd}
+use Rattle.hh_io.specs.Sources.{IsWithin}
+use Rattle.std.proofs.lemmas.Option.{none-some}
+use Rattle.hhbc_repo.specs.Linked.{Linked}
+use Rattle.func_analyze.specs.Laws.{ChainAnnotates, AnnotatedIsFaithful}
+use Rattle.func_analyze.specs.Chain.{annotated_by}
+use Rattle.hhbbc_top.specs.declared.form.Main.{Main}
+use Rattle.hhbbc_top.specs.declared.status.Status.{Status}
+use Rattle.hhbbc_top.specs.declared.status.Status.TheVariants.{Done, NoMemory, NotYet}
+use Rattle.hhbbc_top.specs.Answer.{analyze, IsAnswer, IsAnnotatedText, IsOtherText}
+use Rattle.hhbbc_top.specs.FirstText.{limit, IsFirstText, ReadingIsSound, ReadingIsComplete}
+use Rattle.hhbbc_top.specs.Forms.{repo_of, annotated_text}
+use Rattle.hhbbc_top.specs.Reading.{main_of}
+
+pub annotated-text : ReadingIsSound → ChainAnnotates → AnnotatedIsFaithful → (bytes : List ℕ) (m : Main) (out : List ℕ) → length bytes ≤ limit → main_of bytes ≡ Some m → out ≡ annotated_text m
+    → IsAnnotatedText bytes out
+annotated-text sound annotates faithful bytes m out short e written =
+    let first = sound bytes m short e in
+    let is = annotates (repo_of m) first.form 9 in
+    record {
+      repo = repo_of m;
+      first = first;
+      annotated = annotated_by (repo_of m);
+      is = is;
+      faithful = faithful (repo_of m) (annotated_by (repo_of m)) first.form first.types 9 is;
+      written = written;
+    }
+
+pub other-text : ReadingIsComplete → (bytes : List ℕ) → main_of bytes ≡ None → IsOtherText bytes
+other-text complete bytes e r w = let h : (m : Main) × (main_of bytes ≡ Some m) × (r ≡ repo_of m) = complete bytes r w in none-some h.0 (sym e ∙ h.1)
+
+-- what is written for a text that was read or not
+pub answer-of : ReadingIsSound → ChainAnnotates → AnnotatedIsFaithful → (bytes : List ℕ) (m : Main) (r : Result (List ℕ) Status) → length bytes ≤ limit → main_of bytes ≡ Some m
+    → MatchResult r (λ out. out ≡ annotated_text m) (λ s. s ≡ NoMemory)
+    → MatchResult r (IsAnnotatedText bytes) (λ s. ((s ≡ NotYet) × IsOtherText bytes) ⊎ (s ≡ NoMemory))
+answer-of sound annotates faithful bytes m (Ok out) short e written = annotated-text sound annotates faithful bytes m out short e written
+answer-of sound annotates faithful bytes m (Err s) short e written = inr written
+
+-- the bytes that were read are all that was left, where the source tells them
+all-told : (left rest : Option (List ℕ)) (bytes : List ℕ) (P : List ℕ → Type 0) → Consumes left rest bytes → IsAtEnd rest → P bytes → IfSome left P
+all-told None rest bytes P h e p = tt
+all-told (Some xs) None bytes P h e p = absurd h
+all-told (Some xs) (Some ys) bytes P h e p = subst P (sym (h ∙ ap (λ z. bytes ++ z) e ∙ append-nil bytes)) p
+
+-- the answer to the bytes is the answer to what the source had left
+pub answer-to : (left rest : Option (List ℕ)) (before now : ℕ) (bytes : List ℕ) (r : Result (List ℕ) Status)
+    → Consumes left rest bytes → IsAtEnd rest → IsWithin left limit → now ≡ before
+    → MatchResult r (IsAnnotatedText bytes) (λ s. ((s ≡ NotYet) × IsOtherText bytes) ⊎ (s ≡ NoMemory))
+    → MatchResult r (IsAnswer analyze left rest before now Done) (λ s. IsAnswer analyze left rest before now s [])
+answer-to left rest before now bytes (Ok out) h e w f a = (refl, e, w, all-told left rest bytes (λ b. IsAnnotatedText b out) h e a, f)
+answer-to left rest before now bytes (Err s) h e w f (inl a) =
+    subst (λ t. IsAnswer analyze left rest before now t []) (sym a.0) (refl, e, w, all-told left rest bytes IsOtherText h e a.1, f, refl)
+answer-to left rest before now bytes (Err s) h e w f (inr a) =
+    subst (λ t. IsAnswer analyze left rest before now t []) (sym a) (refl, f, refl)
