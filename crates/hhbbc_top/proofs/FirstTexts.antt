@@ -1,5 +1,5 @@
 -- What the answers of the reader say of a text.
-use Rattle.std.proofs.Common.{◌≡◌, ◌≤◌, ℕ, sym, ◌∙◌, ap, List, Option, Some, None, length}
+use Rattle.std.proofs.Common.{◌≡◌, ◌≤◌, ℕ, sym, ◌∙◌, ap, List, Some, None, length}
 use Rattle.std.proofs.lemmas.Option.{none-some, same_Some}
 use Rattle.hhbc_repo.specs.Linked.{Linked}
 use Rattle.hhbbc_top.specs.declared.form.Main.{Main}
