@@ -1,7 +1,7 @@
 -- What tokens spell: relations between tokens and parts, one for each rule of the grammar. This is the part of the
 -- grammar with functions of plain instructions; labels, try bodies, assertions, member sequences, stated types,
 -- iterators and classes are further cases.
-use Rattle.std.specs.Prelude.{◌≡◌, ℕ, List, [], ◌∷◌, ◌++◌, Option, None, codes, pos}
+use Rattle.std.specs.Prelude.{◌≡◌, ℕ, List, [], ◌∷◌, ◌++◌, None, codes, pos}
 use Rattle.hhas_lex.specs.Tokens.{Token, Directive, Word, Local, Integer, Mark, End}
 use Rattle.hhbc_ops.specs.declared.words.ImmKind.{ImmKind}
 use Rattle.hhbc_ops.specs.declared.words.ImmKind.TheVariants as kinds

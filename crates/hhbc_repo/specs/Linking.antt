@@ -8,14 +8,12 @@ use Rattle.hhbc_repo.specs.declared.parts.ItemParts.TheVariants as items
 use Rattle.hhbc_repo.specs.declared.parts.PositionParts.{PositionParts}
 use Rattle.hhbc_repo.specs.declared.parts.CodeParts.{CodeParts}
 use Rattle.hhbc_repo.specs.declared.parts.CodeParts.TheVariants as forms
-use Rattle.hhbc_repo.specs.declared.parts.InstrParts.{InstrParts}
 use Rattle.hhbc_repo.specs.declared.parts.ImmParts.{ImmParts}
 use Rattle.hhbc_repo.specs.declared.parts.ImmParts.TheVariants as names
 use Rattle.hhbc_repo.specs.declared.body.Body.{Body}
 use Rattle.hhbc_repo.specs.declared.body.Position.{Position}
 use Rattle.hhbc_repo.specs.declared.code.Code.{Code}
 use Rattle.hhbc_repo.specs.declared.code.Code.TheVariants as kinds
-use Rattle.hhbc_repo.specs.declared.code.Instr.{Instr}
 use Rattle.hhbc_repo.specs.declared.code.Imm.{Imm}
 use Rattle.hhbc_repo.specs.declared.code.Imm.TheVariants as imms
 use Rattle.hhbc_repo.specs.Form.{AllDiffer}

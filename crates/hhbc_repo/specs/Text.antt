@@ -1,6 +1,6 @@
 -- The canonical text of a repository. This is the text of functions of plain instructions with claims; labels, try
 -- bodies, member sequences, iterators, parameters and classes are further cases.
-use Rattle.std.specs.Prelude.{ℕ, zero, suc, List, [], ◌∷◌, ◌++◌, Option, Some, None, slice_get, codes, drop}
+use Rattle.std.specs.Prelude.{ℕ, List, [], ◌∷◌, ◌++◌, Option, Some, None, slice_get, codes, drop}
 use Rattle.std.specs.List.{flat_map}
 use Rattle.std.specs.Fmt.{decimal, signed_decimal}
 use Rattle.hhbc_ops.specs.Ops.{op_name}
