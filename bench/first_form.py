@@ -1,0 +1,60 @@
+#!/usr/bin/env python3
+"""Times the built program on a long text: the first example, filled with white space to the longest text that is read.
+
+Prints seconds and peak memory of three runs, beside those of `wc -c` on the same file: the program annotating the
+text, refusing a text of another form as long, and refusing one that is a byte too long.
+"""
+
+import os
+import subprocess
+import sys
+import tempfile
+import time
+
+LIMIT = 16_777_216
+TOP = os.path.dirname(os.path.dirname(os.path.abspath(__file__)))
+PROGRAM = os.path.join(TOP, "hhbbc")
+
+
+def measured(words, path):
+    """Seconds, peak memory in MiB, and the status of one run on a file."""
+    began = time.perf_counter()
+    with open(path, "rb") as text:
+        child = subprocess.Popen(words, stdin=text, stdout=subprocess.DEVNULL, stderr=subprocess.DEVNULL)
+        _, status, usage = os.wait4(child.pid, 0)
+    return time.perf_counter() - began, usage.ru_maxrss / 1024, os.waitstatus_to_exitcode(status)
+
+
+def filled(file, begin, size, end=b""):
+    """Writes a text of so many bytes: its beginning, spaces, and its end. Little of it is in memory at a time."""
+    file.write(begin)
+    left = size - len(begin) - len(end)
+    while left > 0:
+        left -= file.write(b" " * min(left, 65_536))
+    file.write(end)
+    file.flush()
+
+
+def main():
+    with open(os.path.join(TOP, "examples", "first.hhas"), "rb") as example:
+        text = example.read()
+    subprocess.run([PROGRAM], stdin=subprocess.DEVNULL, stderr=subprocess.DEVNULL, check=False)
+    print(f"{'case':<12}{'bytes':>10}  {'run':<8}{'seconds':>9}{'MiB':>8}")
+    for name, begin, size, end, wanted in [
+        ("annotated", text, LIMIT // 4, b"", 0),
+        ("annotated", text, LIMIT, b"", 0),
+        ("refused", b".profile 1;", LIMIT // 4, b"x", 72),
+        ("refused", b".profile 1;", LIMIT, b"x", 72),
+        ("too long", text, LIMIT + 1, b"", 69),
+    ]:
+        with tempfile.NamedTemporaryFile() as file:
+            filled(file, begin, size, end)
+            for run, words in (("hhbbc", [PROGRAM, "analyze"]), ("wc -c", ["wc", "-c"])):
+                seconds, peak, status = measured(words, file.name)
+                print(f"{name:<12}{size:>10}  {run:<8}{seconds:>9.3f}{peak:>8.1f}")
+                if run == "hhbbc" and status != wanted:
+                    sys.exit(f"status {status}, wanted {wanted}")
+
+
+if __name__ == "__main__":
+    main()
