@@ -5,19 +5,19 @@ use Rattle.std.specs.Io.KnownBytes.{Consumes, IsAtEnd}
 use Rattle.hh_io.specs.Sources.{IsWithin}
 use Rattle.std.proofs.lemmas.Option.{none-some}
 use Rattle.hhbc_repo.specs.Linked.{Linked}
-use Rattle.func_analyze.specs.Laws.{ChainAnnotates, AnnotatedIsFaithful}
+use Rattle.func_analyze.specs.Laws.{ChainAnnotates, AnnotatedIsFaithful, AnnotatedIsUnique}
 use Rattle.func_analyze.specs.Chain.{annotated_by}
 use Rattle.hhbbc_top.specs.declared.form.Main.{Main}
 use Rattle.hhbbc_top.specs.declared.status.Status.{Status}
 use Rattle.hhbbc_top.specs.declared.status.Status.TheVariants.{Done, NoMemory, NotYet}
 use Rattle.hhbbc_top.specs.Answer.{analyze, IsAnswer, IsAnnotatedText, IsOtherText}
-use Rattle.hhbbc_top.specs.FirstText.{limit, IsFirstText, ReadingIsSound, ReadingIsComplete}
+use Rattle.hhbbc_top.specs.FirstText.{limit, IsFirstText, ReadingIsSound, ReadingIsComplete, FirstTextHasWords}
 use Rattle.hhbbc_top.specs.Forms.{repo_of, annotated_text}
 use Rattle.hhbbc_top.specs.Reading.{main_of}
 
-pub annotated-text : ReadingIsSound → ChainAnnotates → AnnotatedIsFaithful → (bytes : List ℕ) (m : Main) (out : List ℕ) → length bytes ≤ limit → main_of bytes ≡ Some m → out ≡ annotated_text m
+pub annotated-text : ReadingIsSound → ChainAnnotates → AnnotatedIsFaithful → FirstTextHasWords → AnnotatedIsUnique → (bytes : List ℕ) (m : Main) (out : List ℕ) → length bytes ≤ limit → main_of bytes ≡ Some m → out ≡ annotated_text m
     → IsAnnotatedText bytes out
-annotated-text sound annotates faithful bytes m out short e written =
+annotated-text sound annotates faithful words unique bytes m out short e written =
     let first = sound bytes m short e in
     let is = annotates (repo_of m) first.form 9 in
     record {
@@ -25,6 +25,7 @@ annotated-text sound annotates faithful bytes m out short e written =
       first = first;
       annotated = annotated_by (repo_of m);
       is = is;
+      unique = λ other. unique (repo_of m) other first.form (words bytes (repo_of m) first) 9;
       faithful = faithful (repo_of m) (annotated_by (repo_of m)) first.form first.types 9 is;
       written = written;
     }
@@ -33,11 +34,11 @@ pub other-text : ReadingIsComplete → (bytes : List ℕ) → main_of bytes ≡ 
 other-text complete bytes e r w = let h : (m : Main) × (main_of bytes ≡ Some m) × (r ≡ repo_of m) = complete bytes r w in none-some h.0 (sym e ∙ h.1)
 
 -- what is written for a text that was read or not
-pub answer-of : ReadingIsSound → ChainAnnotates → AnnotatedIsFaithful → (bytes : List ℕ) (m : Main) (r : Result (List ℕ) Status) → length bytes ≤ limit → main_of bytes ≡ Some m
+pub answer-of : ReadingIsSound → ChainAnnotates → AnnotatedIsFaithful → FirstTextHasWords → AnnotatedIsUnique → (bytes : List ℕ) (m : Main) (r : Result (List ℕ) Status) → length bytes ≤ limit → main_of bytes ≡ Some m
     → MatchResult r (λ out. out ≡ annotated_text m) (λ s. s ≡ NoMemory)
     → MatchResult r (IsAnnotatedText bytes) (λ s. ((s ≡ NotYet) × IsOtherText bytes) ⊎ (s ≡ NoMemory))
-answer-of sound annotates faithful bytes m (Ok out) short e written = annotated-text sound annotates faithful bytes m out short e written
-answer-of sound annotates faithful bytes m (Err s) short e written = inr written
+answer-of sound annotates faithful words unique bytes m (Ok out) short e written = annotated-text sound annotates faithful words unique bytes m out short e written
+answer-of sound annotates faithful words unique bytes m (Err s) short e written = inr written
 
 -- the bytes that were read are all that was left, where the source tells them
 all-told : (left rest : Option (List ℕ)) (bytes : List ℕ) (P : List ℕ → Type 0) → Consumes left rest bytes → IsAtEnd rest → P bytes → IfSome left P

@@ -4,6 +4,7 @@ pub mod LocalNames
 pub mod CodeLists
 pub mod ReadingSound
 pub mod ReadingComplete
+pub mod TextWords
 pub mod Headline
 pub mod TokenLists
 pub mod Names

@@ -39,12 +39,12 @@ unfolding main_in
 main-given inside m e = ap (λ (o : Option (Main × List Token)). chain o (λ n. chain (closing_in n.1) (λ c. Some n.0))) e
 
 -- one function
-one_body : (ps : List BodyParts) (c : Body) → LinksBodies ps (c ∷ []) → (b : BodyParts) × (ps ≡ b ∷ []) × LinksBody b c
+pub one_body : (ps : List BodyParts) (c : Body) → LinksBodies ps (c ∷ []) → (b : BodyParts) × (ps ≡ b ∷ []) × LinksBody b c
 one_body [] c h = absurd h
 one_body (b ∷ []) c h = (b, refl, h.0)
 one_body (b ∷ d ∷ ds) c h = absurd h.1
 
-one_function : (ts : List Token) (b : BodyParts) → Functions ts (b ∷ []) → AFunction ts b
+pub one_function : (ts : List Token) (b : BodyParts) → Functions ts (b ∷ []) → AFunction ts b
 one_function ts b h =
     let alone : ts ≡ h.0 = h.4 ∙ ap (λ (l : List Token). h.0 ++ l) h.3 ∙ append-nil h.0 in
     subst (λ (l : List Token). AFunction l b) (sym alone) h.2

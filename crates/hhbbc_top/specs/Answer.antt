@@ -47,6 +47,8 @@ pub record IsAnnotatedText (bytes out : List ℕ) : Type 0 where
   pub first : IsFirstText bytes repo
   pub annotated : Linked
   pub is : IsAnnotated rounds repo annotated
+  -- the annotated repository is the one and only
+  pub unique : (other : Linked) → IsAnnotated rounds repo other → other ≡ annotated
   pub faithful : IsFaithful repo annotated
   pub written : out ≡ text annotated
 

@@ -7,6 +7,7 @@ use Rattle.hhbc_repo.specs.Grammar.{AText}
 use Rattle.hhbc_repo.specs.Linking.{Links}
 use Rattle.hhbc_repo.specs.Form.{IsFirstForm}
 use Rattle.hhbc_repo.specs.Shapes.{Types}
+use Rattle.func_analyze.specs.Laws.{AreWords}
 use Rattle.hhbbc_top.specs.declared.form.Main.{Main}
 use Rattle.hhbbc_top.specs.Reading.{has_comment, main_of}
 use Rattle.hhbbc_top.specs.Forms.{repo_of}
@@ -31,3 +32,7 @@ ReadingIsSound = (bytes : List ℕ) (m : Main) → length bytes ≤ limit → ma
 
 abbrev pub ReadingIsComplete : Type 0
 ReadingIsComplete = (bytes : List ℕ) (r : Linked) → IsFirstText bytes r → (m : Main) × (main_of bytes ≡ Some m) × (r ≡ repo_of m)
+
+-- its ints are of 64 bits
+abbrev pub FirstTextHasWords : Type 0
+FirstTextHasWords = (bytes : List ℕ) (r : Linked) (t : IsFirstText bytes r) → AreWords t.form.body.positions

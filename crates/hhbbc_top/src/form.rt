@@ -2,7 +2,7 @@
 
 ghost use Rattle.std.specs.Prelude.{◌≡◌, ◌≤◌, ◌<◌, ◌^◌, [], ◌==◌, length, IfSome, IfOk};
 ghost use Rattle.hhbc_repo.specs.Linking as linking;
-ghost use Rattle.hhbbc_top.specs.FirstText.{ReadingIsSound, ReadingIsComplete};
+ghost use Rattle.hhbbc_top.specs.FirstText.{FirstTextHasWords, ReadingIsSound, ReadingIsComplete};
 ghost use Rattle.hhbbc_top.specs.Pieces.{Gives, Passes, Reads};
 ghost use Rattle.hhbbc_top.specs.Reading as reading;
 
@@ -276,4 +276,9 @@ pub fn reading_is_sound()
 /// Each text of the first form is read, and its repository is what was read.
 pub fn reading_is_complete()
     ensures { ReadingIsComplete }
+{}
+
+/// The ints of a text of the first form are of 64 bits.
+pub fn first_text_has_words()
+    ensures { FirstTextHasWords }
 {}

@@ -9,11 +9,11 @@ ghost use Rattle.hhbbc_top.specs.Answer as answers;
 ghost use Rattle.hhbbc_top.specs.Forms.{annotated_text};
 
 use crate::annotation::annotated;
-use crate::form::{Main, read, reading_is_complete, reading_is_sound};
+use crate::form::{Main, first_text_has_words, read, reading_is_complete, reading_is_sound};
 use crate::reader::ReadFault;
 use crate::status::{Status, line_of};
 use crate::writer::text_of;
-use func_analyze::{annotated_is_faithful, chain_annotates};
+use func_analyze::{annotated_is_faithful, annotated_is_unique, chain_annotates};
 use hack_values::{NoMemory, Text};
 use hh_io::{ReadError, Sink, Source, read_all, write_all};
 use std::alloc::Global;
@@ -101,6 +101,8 @@ fn answer_of(alloc: Global, text: &[u8]) -> Result<Text, Status>
     reading_is_complete();
     chain_annotates();
     annotated_is_faithful();
+    first_text_has_words();
+    annotated_is_unique();
     match read(alloc, text) {
         Ok(main) => written(alloc, main),
         Err(ReadFault::OtherForm) => Err(Status::NotYet),
