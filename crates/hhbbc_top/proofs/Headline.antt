@@ -1,28 +1,29 @@
 -- What the laws say of a text that was read, and of one that wasn't.
-use Rattle.std.proofs.Common.{◌≡◌, ◌≤◌, ◌⊎◌, inl, inr, ℕ, refl, sym, ◌∙◌, ap, subst, List, [], ◌∷◌, ◌++◌, append-nil, Option, Some, None, Result, Ok, Err, length}
+use Rattle.std.proofs.Common.{◌≡◌, ◌≢◌, ◌≤◌, ◌<◌, arith, ◌⊎◌, inl, inr, ℕ, refl, sym, ◌∙◌, ap, subst, List, [], ◌∷◌, ◌++◌, append-nil, Option, Some, None, Result, Ok, Err, length}
 use Rattle.std.specs.Prelude.{MatchResult, IfSome}
 use Rattle.std.specs.Io.KnownBytes.{Consumes, IsAtEnd}
 use Rattle.hh_io.specs.Sources.{IsWithin}
-use Rattle.std.proofs.lemmas.Option.{none-some}
+use Rattle.std.proofs.lemmas.Option.{none-some, same_Some}
 use Rattle.hhbc_repo.specs.Linked.{Linked}
 use Rattle.func_analyze.specs.Laws.{ChainAnnotates, AnnotatedIsFaithful, AnnotatedIsUnique}
 use Rattle.func_analyze.specs.Chain.{annotated_by}
 use Rattle.hhbbc_top.specs.declared.form.Main.{Main}
 use Rattle.hhbbc_top.specs.declared.status.Status.{Status}
-use Rattle.hhbbc_top.specs.declared.status.Status.TheVariants.{Done, NoMemory, NotYet}
-use Rattle.hhbbc_top.specs.Answer.{analyze, IsAnswer, IsAnnotatedText, IsOtherText}
+use Rattle.hhbbc_top.specs.declared.status.Status.TheVariants.{Done, Usage, TooLong, NoMemory, NotYet, ReadFault, WriteFault}
+use Rattle.hhbbc_top.specs.Answer.{analyze, status_of, Accepts, IsAnswer, IsAnnotatedText, IsOtherText}
 use Rattle.hhbbc_top.specs.FirstText.{limit, IsFirstText, ReadingIsSound, ReadingIsComplete, FirstTextHasWords}
 use Rattle.hhbbc_top.specs.Forms.{repo_of, annotated_text}
 use Rattle.hhbbc_top.specs.Reading.{main_of}
 
-pub annotated-text : ReadingIsSound → ChainAnnotates → AnnotatedIsFaithful → FirstTextHasWords → AnnotatedIsUnique → (bytes : List ℕ) (m : Main) (out : List ℕ) → length bytes ≤ limit → main_of bytes ≡ Some m → out ≡ annotated_text m
+pub annotated-text : ReadingIsSound → ReadingIsComplete → ChainAnnotates → AnnotatedIsFaithful → FirstTextHasWords → AnnotatedIsUnique → (bytes : List ℕ) (m : Main) (out : List ℕ) → length bytes ≤ limit → main_of bytes ≡ Some m → out ≡ annotated_text m
     → IsAnnotatedText bytes out
-annotated-text sound annotates faithful words unique bytes m out short e written =
+annotated-text sound complete annotates faithful words unique bytes m out short e written =
     let first = sound bytes m short e in
     let is = annotates (repo_of m) first.form 9 in
     record {
       repo = repo_of m;
       first = first;
+      only = λ other w. let h : (k : Main) × (main_of bytes ≡ Some k) × (other ≡ repo_of k) = complete bytes other w in h.2 ∙ ap repo_of (same_Some h.0 m (sym h.1 ∙ e));
       annotated = annotated_by (repo_of m);
       is = is;
       unique = λ other. unique (repo_of m) other first.form (words bytes (repo_of m) first) 9;
@@ -34,11 +35,11 @@ pub other-text : ReadingIsComplete → (bytes : List ℕ) → main_of bytes ≡ 
 other-text complete bytes e r w = let h : (m : Main) × (main_of bytes ≡ Some m) × (r ≡ repo_of m) = complete bytes r w in none-some h.0 (sym e ∙ h.1)
 
 -- what is written for a text that was read or not
-pub answer-of : ReadingIsSound → ChainAnnotates → AnnotatedIsFaithful → FirstTextHasWords → AnnotatedIsUnique → (bytes : List ℕ) (m : Main) (r : Result (List ℕ) Status) → length bytes ≤ limit → main_of bytes ≡ Some m
+pub answer-of : ReadingIsSound → ReadingIsComplete → ChainAnnotates → AnnotatedIsFaithful → FirstTextHasWords → AnnotatedIsUnique → (bytes : List ℕ) (m : Main) (r : Result (List ℕ) Status) → length bytes ≤ limit → main_of bytes ≡ Some m
     → MatchResult r (λ out. out ≡ annotated_text m) (λ s. s ≡ NoMemory)
     → MatchResult r (IsAnnotatedText bytes) (λ s. ((s ≡ NotYet) × IsOtherText bytes) ⊎ (s ≡ NoMemory))
-answer-of sound annotates faithful words unique bytes m (Ok out) short e written = annotated-text sound annotates faithful words unique bytes m out short e written
-answer-of sound annotates faithful words unique bytes m (Err s) short e written = inr written
+answer-of sound complete annotates faithful words unique bytes m (Ok out) short e written = annotated-text sound complete annotates faithful words unique bytes m out short e written
+answer-of sound complete annotates faithful words unique bytes m (Err s) short e written = inr written
 
 -- the bytes that were read are all that was left, where the source tells them
 all-told : (left rest : Option (List ℕ)) (bytes : List ℕ) (P : List ℕ → Type 0) → Consumes left rest bytes → IsAtEnd rest → P bytes → IfSome left P
@@ -56,3 +57,37 @@ answer-to left rest before now bytes (Err s) h e w f (inl a) =
     subst (λ t. IsAnswer analyze left rest before now t []) (sym a.0) (refl, e, w, all-told left rest bytes IsOtherText h e a.1, f, refl)
 answer-to left rest before now bytes (Err s) h e w f (inr a) =
     subst (λ t. IsAnswer analyze left rest before now t []) (sym a) (refl, f, refl)
+
+both : (left : Option (List ℕ)) (bytes : List ℕ) (P : List ℕ → Type 0) → left ≡ Some bytes → IfSome left P → P bytes
+both left bytes P e h = rw e at h
+
+-- the other statuses aren't those of a text of the first form
+pub accepted : (words : List (List ℕ)) (left rest : Option (List ℕ)) (before now : ℕ) (s : Status) (out : List ℕ)
+    → IsAnswer words left rest before now s out → Accepts words left s
+accepted words left rest before now Done out a bytes repo w e f = inl refl
+accepted words left rest before now Usage out a bytes repo w e f = absurd (a.0 w)
+accepted words left rest before now TooLong out a bytes repo w e f =
+    let longer : limit < length bytes = both left bytes (λ b. limit < length b) e a.1 in absurd (omega (arith, f.short))
+accepted words left rest before now NoMemory out a bytes repo w e f = inr (inl refl)
+accepted words left rest before now NotYet out a bytes repo w e f =
+    let other : IsOtherText bytes = both left bytes IsOtherText e a.3 in absurd (other repo f)
+accepted words left rest before now ReadFault out a bytes repo w e f = inr (inr (inl refl))
+accepted words left rest before now WriteFault out a bytes repo w e f = inr (inr (inr refl))
+
+-- the status of an answer is accepted, and so is what was delivered of it
+pub accepted-answer : (words : List (List ℕ)) (left rest : Option (List ℕ)) (before now : ℕ) (r : Result (List ℕ) Status)
+    → MatchResult r (IsAnswer words left rest before now Done) (λ s. IsAnswer words left rest before now s []) → Accepts words left (status_of r)
+accepted-answer words left rest before now (Ok out) a = accepted words left rest before now Done out a
+accepted-answer words left rest before now (Err s) a = accepted words left rest before now s [] a
+
+delivered-as : (words : List (List ℕ)) (left : Option (List ℕ)) (s t : Status) → s ≡ t → Accepts words left t → Accepts words left s
+delivered-as words left s t e a = subst (Accepts words left) (sym e) a
+
+pub accepted-delivered : (words : List (List ℕ)) (left : Option (List ℕ)) (s t : Status) → (s ≢ WriteFault → s ≡ t) → Accepts words left t → Accepts words left s
+accepted-delivered words left Done t h a = delivered-as words left Done t (h (λ e. cc)) a
+accepted-delivered words left Usage t h a = delivered-as words left Usage t (h (λ e. cc)) a
+accepted-delivered words left TooLong t h a = delivered-as words left TooLong t (h (λ e. cc)) a
+accepted-delivered words left NoMemory t h a = delivered-as words left NoMemory t (h (λ e. cc)) a
+accepted-delivered words left NotYet t h a = delivered-as words left NotYet t (h (λ e. cc)) a
+accepted-delivered words left ReadFault t h a = delivered-as words left ReadFault t (h (λ e. cc)) a
+accepted-delivered words left WriteFault t h a = λ bytes repo w e f. inr (inr (inr refl))

@@ -45,6 +45,7 @@ rounds = 10
 pub record IsAnnotatedText (bytes out : List ℕ) : Type 0 where
   pub repo : Linked
   pub first : IsFirstText bytes repo
+  pub only : (other : Linked) → IsFirstText bytes other → other ≡ repo
   pub annotated : Linked
   pub is : IsAnnotated rounds repo annotated
   -- the annotated repository is the one and only
@@ -92,3 +93,9 @@ WritesPartOf Answer out out_now err err_now =
 abbrev pub WritesAll : (Status → List ℕ → Type 0) → Status → Option (List ℕ) → Option (List ℕ) → Option (List ℕ) → Option (List ℕ) → Type 0
 WritesAll Answer s out out_now err err_now =
     (bytes : List ℕ) × Answer s bytes × Takes out out_now bytes × Takes err err_now (line_of s)
+
+-- a text of the first form is accepted, memory and stream faults aside
+abbrev pub Accepts : List (List ℕ) → Option (List ℕ) → Status → Type 0
+Accepts words left s =
+    (bytes : List ℕ) (repo : Linked) → words ≡ analyze → left ≡ Some bytes → IsFirstText bytes repo
+    → (s ≡ Done) ⊎ ((s ≡ NoMemory) ⊎ ((s ≡ ReadFault) ⊎ (s ≡ WriteFault)))

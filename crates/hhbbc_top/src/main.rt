@@ -5,49 +5,59 @@ mod annotation;
 mod form;
 mod reader;
 mod status;
+#[cfg(test)]
+mod tests;
 mod top;
 mod writer;
 
-use hack_values::{NoMemory, Seq, Text};
+use hack_values::{Seq, Text};
 use hh_io::{StdSink, StdSource};
-
-#[cfg(test)]
-mod tests;
-
 pub use status::Status;
+use std::env;
+use std::io::{self, ErrorKind};
 use std::process::ExitCode;
-use std::{env, io};
-pub use top::hhbbc;
+pub use top::{finish, hhbbc};
 
-/// The words after the program's name.
-fn words_of(rt: &HostRuntime) -> io::Result<Result<Seq<Text>, NoMemory>> {
-    let mut words = Seq::new(rt.alloc());
-    for (place, word) in env::args(rt)?.enumerate() {
+/// The words after the program's name, or the status where there is none for them: words that aren't
+/// UTF-8 name no command.
+fn words_of(rt: &HostRuntime) -> Result<Seq<Text>, Status> {
+    let words = match env::args(rt) {
+        Ok(words) => words,
+        Err(error) => return Err(status_of(&error)),
+    };
+    let mut texts = Seq::new(rt.alloc());
+    for (place, word) in words.enumerate() {
         if place > 0 {
             let Ok(text) = Text::from_bytes(rt.alloc(), word.as_bytes()) else {
-                return Ok(Err(NoMemory));
+                return Err(Status::NoMemory);
             };
-            if words.push(text).is_err() {
-                return Ok(Err(NoMemory));
+            if texts.push(text).is_err() {
+                return Err(Status::NoMemory);
             }
         }
     }
-    Ok(Ok(words))
+    Ok(texts)
 }
 
-fn main(rt: HostRuntime) -> io::Result<ExitCode> {
-    let Ok(words) = words_of(&rt)? else {
-        return Ok(ExitCode::from(Status::NoMemory.number()));
-    };
-    let mut source = StdSource::new(rt.stdin());
-    let mut out = StdSink::new(rt.stdout());
+fn status_of(error: &io::Error) -> Status {
+    if error.kind() == ErrorKind::InvalidData {
+        Status::Usage
+    } else {
+        Status::NoMemory
+    }
+}
+
+fn main(rt: HostRuntime) -> ExitCode {
     let mut err = StdSink::new(rt.stderr());
-    let status = hhbbc(
-        rt.alloc(),
-        words.as_slice(),
-        &mut source,
-        &mut out,
-        &mut err,
-    );
-    Ok(ExitCode::from(status.number()))
+    let status = match words_of(&rt) {
+        Ok(words) => hhbbc(
+            rt.alloc(),
+            words.as_slice(),
+            &mut StdSource::new(rt.stdin()),
+            &mut StdSink::new(rt.stdout()),
+            &mut err,
+        ),
+        Err(status) => finish(&mut err, status),
+    };
+    ExitCode::from(status.number())
 }

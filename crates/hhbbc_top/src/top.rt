@@ -43,6 +43,7 @@ pub fn hhbbc<S: Source, K: Sink, E: Sink>(
     ensures all { result ≢ Status.WriteFault → answers.WritesAll (answers.IsAnswer words.now (S.left source.old) (S.left source.new) (S.faults source.old) (S.faults source.new)) result (K.taken out.old) (K.taken out.new) (E.taken err.old) (E.taken err.new) }
     ensures part { result ≡ Status.WriteFault → answers.WritesPartOf (answers.IsAnswer words.now (S.left source.old) (S.left source.new) (S.faults source.old) (S.faults source.new)) (K.taken out.old) (K.taken out.new) (E.taken err.old) (E.taken err.new) }
     ensures kept { result ≢ Status.WriteFault → (K.faults out.new ≡ K.faults out.old) × (E.faults err.new ≡ E.faults err.old) }
+    ensures accepts { answers.Accepts words.now (S.left source.old) result }
 
     ensures later { S.reads source.old ≤ S.reads source.new }
     ensures reads { S.reads source.new ≤ S.reads source.old + LIMIT + 2 }
@@ -144,8 +145,8 @@ fn deliver<K: Sink, E: Sink>(out: &mut K, err: &mut E, answer: Result<Text, Stat
     }
 }
 
-/// Writes the line of a status.
-fn finish<E: Sink>(err: &mut E, status: Status) -> Status
+/// Writes the line of a status, and answers it, or WriteFault where that failed.
+pub fn finish<E: Sink>(err: &mut E, status: Status) -> Status
     requires { status ≢ Status.WriteFault }
     ensures status { result ≢ Status.WriteFault → result ≡ status }
     ensures all { result ≢ Status.WriteFault → Takes (E.taken err.old) (E.taken err.new) (answers.line_of status) }
