@@ -1,6 +1,8 @@
 //! `hhbbc`: types of a repository of bytecode, inferred and written back as assertions.
 #![tactic(auto)]
 
+ghost use Rattle.std.specs.Prelude.{◌≢◌, IfErr};
+
 mod annotation;
 mod form;
 mod reader;
@@ -20,7 +22,9 @@ pub use top::{finish, hhbbc};
 
 /// The words after the program's name, or the status where there is none for them: words that aren't
 /// UTF-8 name no command.
-fn words_of(rt: &HostRuntime) -> Result<Seq<Text>, Status> {
+fn words_of(rt: &HostRuntime) -> Result<Seq<Text>, Status>
+    ensures { IfErr result (λ s. s ≢ Status.WriteFault) }
+{
     let words = match env::args(rt) {
         Ok(words) => words,
         Err(error) => return Err(status_of(&error)),
@@ -39,7 +43,9 @@ fn words_of(rt: &HostRuntime) -> Result<Seq<Text>, Status> {
     Ok(texts)
 }
 
-fn status_of(error: &io::Error) -> Status {
+fn status_of(error: &io::Error) -> Status
+    ensures { result ≢ Status.WriteFault }
+{
     if error.kind() == ErrorKind::InvalidData {
         Status::Usage
     } else {
