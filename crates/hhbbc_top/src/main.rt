@@ -1,7 +1,7 @@
 //! `hhbbc`: types of a repository of bytecode, inferred and written back as assertions.
 #![tactic(auto)]
 
-ghost use Rattle.std.specs.Prelude.{◌≢◌, IfErr};
+ghost use Rattle.std.specs.Prelude.{◌≡◌, ◌⊎◌, IfErr};
 
 mod annotation;
 mod form;
@@ -23,7 +23,7 @@ pub use top::{finish, hhbbc};
 /// The words after the program's name, or the status where there is none for them: words that aren't
 /// UTF-8 name no command.
 fn words_of(rt: &HostRuntime) -> Result<Seq<Text>, Status>
-    ensures { IfErr result (λ s. s ≢ Status.WriteFault) }
+    ensures { IfErr result (λ s. (s ≡ Status.Usage) ⊎ (s ≡ Status.NoMemory)) }
 {
     let words = match env::args(rt) {
         Ok(words) => words,
@@ -44,7 +44,7 @@ fn words_of(rt: &HostRuntime) -> Result<Seq<Text>, Status>
 }
 
 fn status_of(error: &io::Error) -> Status
-    ensures { result ≢ Status.WriteFault }
+    ensures { (result ≡ Status.Usage) ⊎ (result ≡ Status.NoMemory) }
 {
     if error.kind() == ErrorKind::InvalidData {
         Status::Usage
