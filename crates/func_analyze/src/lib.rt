@@ -2,7 +2,11 @@
 #![tactic(auto)]
 
 mod laws;
+mod problem;
+mod worklist;
 
 pub use laws::{
     annotated_is_faithful, annotated_is_unique, chain_annotates, chain_is_least, facts_are_true,
 };
+pub use problem::Problem;
+pub use worklist::least;
