@@ -1,5 +1,7 @@
 pub mod Annotated
 pub mod Chain
+pub mod Climb
+pub mod ClimbLaws
 pub mod Laws
 pub mod Problem
 pub mod Rounds

@@ -10,3 +10,6 @@ pub use laws::{
 };
 pub use problem::Problem;
 pub use worklist::least;
+
+#[cfg(test)]
+mod tests;
