@@ -1,9 +1,9 @@
 -- What it does to a table and its list to put flows there.
-use Rattle.std.proofs.Common.{◌≡◌, ◌≢◌, ◌⊎◌, inl, inr, ℕ, zero, suc, ◌+◌, ◌-◌, ◌*◌, ◌<◌, ◌≤◌, refl, sym, ◌∙◌, ap, subst, List, [], ◌∷◌, ◌++◌, Option, Some, None, length, length-append, slice_get, slice_set, replicate, Contains, Result, Ok, Err, IfOk, arith}
+use Rattle.std.proofs.Common.{◌≡◌, ◌⊎◌, inl, inr, ℕ, zero, suc, ◌+◌, ◌<◌, ◌≤◌, refl, sym, ◌∙◌, ap, subst, List, [], ◌∷◌, ◌++◌, Option, Some, None, length, length-append, slice_get, slice_set, replicate, Contains, Result, Ok, Err, IfOk, arith}
 use Rattle.std.proofs.lemmas.List.Elements.{Contains-append_left, Contains-append_right, Contains-push, Contains-push_cases, Contains-append_cases}
 use Rattle.std.proofs.lemmas.List.{length-replicate}
 use Rattle.func_analyze.specs.Problem.{HasStateOf, HasAboveOf, Covers, FlowsBelow, TableBelow, IsSolutionOf, IsLeastOf}
-use Rattle.func_analyze.specs.Worklist.{room_of, room, AllFit, FlowsFit, Stays, Lifts, Puts}
+use Rattle.func_analyze.specs.Worklist.{room, AllFit, Stays, Lifts, Puts}
 
 -- the laws of a problem
 pub record Laws {State : Type 0} (below : State → State → Type 0) (fits : ℕ → State → Type 0) (positions : ℕ) (start : State)

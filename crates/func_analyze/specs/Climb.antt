@@ -1,6 +1,6 @@
 -- Flows of a small graph, on which the worklist is run: 0 to 1, 1 to 2, from 2 back to 1 and on to 3, and from 4 to 3.
 -- A state is a level, and behind a position it is at least the position's number.
-use Rattle.std.specs.Prelude.{ℕ, zero, suc, ◌<◌, ◌≤◌, max, List, [], ◌∷◌}
+use Rattle.std.specs.Prelude.{ℕ, zero, suc, ◌<◌, max, List, [], ◌∷◌}
 
 abbrev pub targets : ℕ → List ℕ
 targets zero = 1 ∷ []

@@ -1,5 +1,5 @@
 -- Laws of the small graph on which the worklist is run.
-use Rattle.std.proofs.Common.{◌≡◌, ℕ, zero, suc, ◌<◌, ◌≤◌, max, refl, sym, ap, subst, List, [], ◌∷◌, Contains, arith}
+use Rattle.std.proofs.Common.{◌≡◌, ℕ, zero, suc, ◌<◌, ◌≤◌, max, ap, List, [], ◌∷◌, Contains, arith}
 use Rattle.func_analyze.specs.Problem.{FlowsBelow}
 use Rattle.func_analyze.specs.Climb.{targets, all_to, climbs, IsLevel}
 

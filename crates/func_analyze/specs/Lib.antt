@@ -6,4 +6,5 @@ pub mod Laws
 pub mod Problem
 pub mod Rounds
 pub mod Solution
+pub mod SolutionLaws
 pub mod Worklist

@@ -1,6 +1,6 @@
 -- What a worklist does with its table and its list.
 use Rattle.std.specs.Prelude.{◌≡◌, ◌⊎◌, ℕ, ◌+◌, ◌-◌, ◌*◌, ◌≤◌, List, [], ◌∷◌, Option, Some, None, length, slice_get, Contains}
-use Rattle.func_analyze.specs.Problem.{HasStateOf, HasAboveOf, Covers, TableBelow}
+use Rattle.func_analyze.specs.Problem.{HasStateOf, Covers, TableBelow}
 
 -- how far a state may still rise
 abbrev pub room_of : {State : Type 0} → (State → ℕ) → ℕ → Option State → ℕ

@@ -1,4 +1,3 @@
-use Rattle.std.proofs.Common.{rules}
 use Rattle.func_analyze.proofs.Putting.{lifts_puts}
 use Rattle.func_analyze.proofs.worklist.put.Goals as goal
 

@@ -1,4 +1,4 @@
-use Rattle.std.proofs.Common.{◌≡◌, ℕ, List, Option, length}
+use Rattle.std.proofs.Common.{◌≡◌, ℕ, List, length}
 use Rattle.func_analyze.specs.Worklist.{AllFit, FlowsFit, Puts}
 use Rattle.func_analyze.proofs.worklist.put_all.Given as goal
 
