@@ -7,4 +7,6 @@ mod Examples
 mod FactsTrue
 mod Faithful
 mod Sound
+mod Trimmed
 mod Unique
+pub mod Putting

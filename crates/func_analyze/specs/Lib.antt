@@ -1,5 +1,10 @@
 pub mod Annotated
 pub mod Chain
+pub mod Climb
+pub mod ClimbLaws
 pub mod Laws
+pub mod Problem
 pub mod Rounds
 pub mod Solution
+pub mod SolutionLaws
+pub mod Worklist

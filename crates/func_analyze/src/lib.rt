@@ -2,7 +2,18 @@
 #![tactic(auto)]
 
 mod laws;
+mod problem;
+mod solution_laws;
+mod worklist;
 
 pub use laws::{
     annotated_is_faithful, annotated_is_unique, chain_annotates, chain_is_least, facts_are_true,
 };
+pub use problem::Problem;
+pub use solution_laws::{
+    least_is_alive, least_is_by_flows, least_of_flows, lower_facts_lower_least,
+};
+pub use worklist::least;
+
+#[cfg(test)]
+mod tests;

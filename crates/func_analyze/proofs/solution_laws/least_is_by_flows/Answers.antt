@@ -1,0 +1,5 @@
+use Rattle.func_analyze.proofs.Trimmed.{least_is_by_flows}
+use Rattle.func_analyze.proofs.solution_laws.least_is_by_flows.Goals as goal
+
+pub returns : goal.returns
+returns c = least_is_by_flows
