@@ -2,7 +2,9 @@
 #![tactic(auto)]
 
 mod laws;
+mod tally;
 
 pub use laws::{
     annotated_is_faithful, annotated_is_unique, chain_annotates, chain_is_least, facts_are_true,
 };
+pub use tally::{Tally, counted};
