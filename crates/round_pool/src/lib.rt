@@ -8,3 +8,6 @@ mod worker;
 pub use gate::{Gate, OpenGate};
 pub use piece::pieces;
 pub use worker::Worker;
+
+#[cfg(test)]
+mod tests;
