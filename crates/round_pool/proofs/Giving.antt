@@ -1,5 +1,5 @@
 -- What jobs give, in parts of a list and in the whole.
-use Rattle.std.proofs.Common.{◌≡◌, ℕ, ◌+◌, suc, zero, ◌<◌, List, [], ◌∷◌, ◌++◌, length, take, get_or, subst, sym, arith, add-one}
+use Rattle.std.proofs.Common.{◌≡◌, ℕ, ◌+◌, suc, zero, ◌<◌, List, [], ◌∷◌, ◌++◌, length, map, take, get_or, arith, add-one, refl}
 use Rattle.round_pool.specs.Pieces.{AllGiven}
 
 -- what two lists of jobs give, one behind the other
@@ -19,3 +19,10 @@ given_more gives (job ∷ jobs) zero d (other ∷ answers) answer h v g = absurd
 given_more gives (job ∷ jobs) (suc i) d [] answer h v g = absurd v
 given_more gives (job ∷ jobs) (suc i) d (other ∷ answers) answer h v g =
     rw add-one (v.0, rw add-one at (given_more gives jobs i d answers answer (omega arith) v.1 g))
+
+-- where each job has one answer
+pub given_map : {A : Type 0} (answer_of : ℕ → A) (jobs : List ℕ) (answers : List A) → AllGiven (λ job answer. answer ≡ answer_of job) jobs answers → answers ≡ map answer_of jobs
+given_map answer_of [] [] v = refl
+given_map answer_of [] (answer ∷ answers) v = absurd v
+given_map answer_of (job ∷ jobs) [] v = absurd v
+given_map answer_of (job ∷ jobs) (answer ∷ answers) v = let rest = given_map answer_of jobs answers v.1 in let here = v.0 in cc

@@ -1,5 +1,5 @@
 -- Which jobs may be done, in a list and in its parts.
-use Rattle.std.proofs.Common.{◌≡◌, ℕ, ◌+◌, suc, zero, ◌<◌, List, [], ◌∷◌, length, take, drop, get_or, subst, sym, arith, add-one, add-zero}
+use Rattle.std.proofs.Common.{ℕ, ◌+◌, suc, zero, ◌<◌, List, [], ◌∷◌, length, take, drop, get_or, subst, arith, add-zero}
 use Rattle.round_pool.specs.Pieces.{AllTaken}
 
 -- one job may be done at its own place

@@ -2,10 +2,12 @@
 #![tactic(auto)]
 
 mod gate;
+mod laws;
 mod piece;
 mod worker;
 
 pub use gate::{Gate, OpenGate};
+pub use laws::answers_follow_from_the_jobs;
 pub use piece::pieces;
 pub use worker::Worker;
 

@@ -1,5 +1,5 @@
-use Rattle.std.proofs.Common.{rules, ◌≡◌, ◌++◌, ◌+◌, ℕ, length, take, drop, take-append-drop}
-use Rattle.round_pool.specs.Pieces.{AllTaken, AllGiven, AreJoined, IsPieceOf}
+use Rattle.std.proofs.Common.{rules, ◌+◌, length, take-append-drop}
+use Rattle.round_pool.specs.Pieces.{AllTaken}
 use Rattle.round_pool.proofs.Joining.{piece_joined}
 use Rattle.round_pool.proofs.Taking.{taken_take, taken_drop}
 use Rattle.round_pool.proofs.piece.+fn-halved-join+arg2+fn-halved-join+arg3+halved.Goals as goal

@@ -1,5 +1,4 @@
-use Rattle.std.proofs.Common.{rules, ◌≡◌, ◌+◌, ◌++◌, ◌∷◌, [], ℕ, subst, sym, arith, get_or, List}
-use Rattle.round_pool.specs.Pieces.{AllTaken, AllGiven}
+use Rattle.std.proofs.Common.{rules, ℕ, subst, sym, get_or}
 use Rattle.round_pool.proofs.Taking.{taken_at}
 use Rattle.round_pool.proofs.Giving.{given_more}
 use Rattle.round_pool.proofs.piece.in_order.Goals as goal

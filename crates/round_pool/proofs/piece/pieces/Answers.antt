@@ -1,5 +1,4 @@
-use Rattle.std.proofs.Common.{rules, ◌≡◌, ◌+◌, ◌<◌, ℕ, length, subst, sym, arith, zero-add}
-use Rattle.round_pool.specs.Pieces.{AllTaken}
+use Rattle.std.proofs.Common.{subst, sym, zero-add}
 use Rattle.round_pool.proofs.Taking.{taken_both}
 use Rattle.round_pool.proofs.piece.pieces.Goals as goal
 
