@@ -4,6 +4,9 @@
 mod laws;
 mod problem;
 mod solution_laws;
+mod tally;
+#[cfg(test)]
+mod tests;
 mod worklist;
 
 pub use laws::{
@@ -13,7 +16,5 @@ pub use problem::Problem;
 pub use solution_laws::{
     least_is_alive, least_is_by_flows, least_of_flows, lower_facts_lower_least,
 };
+pub use tally::{Tally, counted};
 pub use worklist::least;
-
-#[cfg(test)]
-mod tests;
