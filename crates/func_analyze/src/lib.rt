@@ -11,7 +11,8 @@ pub use laws::{
 };
 pub use problem::Problem;
 pub use solution_laws::{
-    least_is_alive, least_is_by_flows, least_of_flows, lower_facts_lower_least,
+    classes_are_transitive, least_is_alive, least_is_by_flows, least_of_flows,
+    lower_facts_lower_least,
 };
 pub use worklist::least;
 
