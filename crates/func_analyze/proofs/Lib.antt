@@ -3,6 +3,7 @@ mod ChainLeast
 mod ChainProper
 mod ChainRounds
 mod ClaimsHold
+mod ClassChains
 mod Examples
 mod FactsTrue
 mod Faithful

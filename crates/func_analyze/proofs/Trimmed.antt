@@ -18,7 +18,8 @@ use Rattle.abstract_step.proofs.FlowOrder.{flow_is_monotone}
 use Rattle.func_analyze.specs.Solution.{Table, HasState, HasAbove, IsSolution, IsLeast}
 use Rattle.func_analyze.specs.Chain.{if_alive}
 use Rattle.func_analyze.specs.Problem.{IsSolutionOf}
-use Rattle.func_analyze.specs.SolutionLaws.{IsTransitive, LeastIsByFlows, LowerFactsLowerLeast, LeastIsAlive, LeastOfFlows}
+use Rattle.func_analyze.proofs.ClassChains.{classes_are_transitive}
+use Rattle.func_analyze.specs.SolutionLaws.{LeastIsByFlows, LowerFactsLowerLeast, LeastIsAlive, LeastOfFlows}
 
 -- a solution under facts is one under facts with the same flows
 alike : (r : Linked) (F G : Facts) (n : ℕ) (T : Table)
@@ -154,9 +155,9 @@ least_is_alive r F n T w p s e =
     subst (λ u. is_alive u ≡ true) g y.1
 
 -- a solution under higher facts, trimmed, is one under the lower
-solves_lower : (r : Linked) (F G : Facts) (n : ℕ) (U : Table) → IsTransitive (tree_of r) → FactsLe (tree_of r) F G → IsSolution r G n U
+solves_lower : (r : Linked) (F G : Facts) (n : ℕ) (U : Table) → FactsLe (tree_of r) F G → IsSolution r G n U
     → IsSolution r F n (trimmed U)
-solves_lower r F G n U trans le w = record {
+solves_lower r F G n U le w = record {
   body = w.body;
   at = w.at;
   count = trimmed_length U ∙ w.count;
@@ -165,12 +166,12 @@ solves_lower r F G n U trans le w = record {
       let x = was_there U p s e in
       let y = (flow_is_monotone r F G n p s s le x.1 (StateLe-refl (tree_of r) s)).to q t m in
       let z = w.closed p s x.0 q y.0 y.1 in
-      above_trimmed r U q t (flow_is_alive r F n p s q t m) (z.0, z.1, StateLe-trans (tree_of r) trans t y.0 z.0 y.2 z.2);
+      above_trimmed r U q t (flow_is_alive r F n p s q t m) (z.0, z.1, StateLe-trans (tree_of r) (classes_are_transitive (tree_of r)) t y.0 z.0 y.2 z.2);
 }
 
 pub lower_facts_lower_least : LowerFactsLowerLeast
-lower_facts_lower_least r F G n trans le T U l w p s e =
-    let x = l.least (trimmed U) (solves_lower r F G n U trans le w) p s e in
+lower_facts_lower_least r F G n le T U l w p s e =
+    let x = l.least (trimmed U) (solves_lower r F G n U le w) p s e in
     (x.0, (was_there U p x.0 x.1).0, x.2)
 
 -- a solution of a body and one of its flows

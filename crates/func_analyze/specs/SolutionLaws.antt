@@ -11,9 +11,9 @@ use Rattle.abstract_step.specs.Laws.{FactsLe}
 use Rattle.func_analyze.specs.Solution.{Table, HasState, HasAbove, IsSolution, IsLeast}
 use Rattle.func_analyze.specs.Problem.{IsLeastOf}
 
--- what is below a class that is below another is below that one too
-abbrev pub IsTransitive : Tree → Type 0
-IsTransitive tree = (a b c : ℕ) → below tree a b ≡ true → below tree b c ≡ true → below tree a c ≡ true
+-- a class below one that is below a third is below the third, whatever the tree
+abbrev pub ClassesAreTransitive : Type 0
+ClassesAreTransitive = (tree : Tree) (a b c : ℕ) → below tree a b ≡ true → below tree b c ≡ true → below tree a c ≡ true
 
 -- under these facts the states of the body flow alike
 abbrev pub FlowsAlike : Linked → Facts → Facts → ℕ → Type 0
@@ -26,7 +26,7 @@ LeastIsByFlows = (r : Linked) (F G : Facts) (n : ℕ) → FlowsAlike r F G n →
 -- lower facts have a lower least solution, below each solution under the higher facts
 abbrev pub LowerFactsLowerLeast : Type 0
 LowerFactsLowerLeast =
-    (r : Linked) (F G : Facts) (n : ℕ) → IsTransitive (tree_of r) → FactsLe (tree_of r) F G
+    (r : Linked) (F G : Facts) (n : ℕ) → FactsLe (tree_of r) F G
     → (T U : Table) → IsLeast r F n T → IsSolution r G n U
     → (p : ℕ) (s : State) → HasState T p s → HasAbove r U p s
 

@@ -14,7 +14,8 @@ pub use laws::{
 };
 pub use problem::Problem;
 pub use solution_laws::{
-    least_is_alive, least_is_by_flows, least_of_flows, lower_facts_lower_least,
+    classes_are_transitive, least_is_alive, least_is_by_flows, least_of_flows,
+    lower_facts_lower_least,
 };
 pub use tally::{Tally, counted};
 pub use worklist::least;

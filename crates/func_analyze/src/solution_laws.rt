@@ -1,6 +1,6 @@
 //! Laws of least solutions, each the contract of a function that does nothing.
 
-ghost use Rattle.func_analyze.specs.SolutionLaws.{LeastIsAlive, LeastIsByFlows, LeastOfFlows, LowerFactsLowerLeast};
+ghost use Rattle.func_analyze.specs.SolutionLaws.{ClassesAreTransitive, LeastIsAlive, LeastIsByFlows, LeastOfFlows, LowerFactsLowerLeast};
 
 /// Where facts make the states of a body flow alike, it has the same least solution under both.
 pub fn least_is_by_flows()
@@ -20,4 +20,9 @@ pub fn least_is_alive()
 /// The least solution of a body is what a worklist over its flows gives.
 pub fn least_of_flows()
     ensures { LeastOfFlows }
+{}
+
+/// What is below a class is below all that the class is below, in every tree.
+pub fn classes_are_transitive()
+    ensures { ClassesAreTransitive }
 {}
