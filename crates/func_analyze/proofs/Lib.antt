@@ -8,3 +8,4 @@ mod FactsTrue
 mod Faithful
 mod Sound
 mod Unique
+pub mod SecondForm

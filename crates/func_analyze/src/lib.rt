@@ -4,5 +4,6 @@
 mod laws;
 
 pub use laws::{
-    annotated_is_faithful, annotated_is_unique, chain_annotates, chain_is_least, facts_are_true,
+    annotated_is_faithful, annotated_is_unique, bare_chain_annotates, chain_annotates,
+    chain_is_least, facts_are_true, second_is_faithful,
 };
