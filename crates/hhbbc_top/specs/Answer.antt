@@ -10,7 +10,7 @@ use Rattle.hhbc_repo.specs.Truth.{IsFaithful}
 use Rattle.func_analyze.specs.Annotated.{IsAnnotated}
 use Rattle.hhbbc_top.specs.declared.status.Status.{Status}
 use Rattle.hhbbc_top.specs.declared.status.Status.TheVariants.{Done, Usage, TooLong, NoMemory, NotYet, ReadFault, WriteFault}
-use Rattle.hhbbc_top.specs.FirstText.{limit, IsFirstText}
+use Rattle.hhbbc_top.specs.ReadText.{limit, IsReadText}
 
 -- the number that the process ends with
 abbrev pub number_of : Status → ℕ
@@ -40,19 +40,19 @@ analyze = codes "analyze" ∷ []
 abbrev pub rounds : ℕ
 rounds = 10
 
--- the canonical text of the repository of a text of the first form, annotated; it runs as the text's own repository does, its
--- claims are true in every run, and no run of either is stuck
+-- the canonical text of the repository of a text of the form that is read, annotated; it runs as the text's own repository does,
+-- its claims are true in every run, and no run of either is stuck
 pub record IsAnnotatedText (bytes out : List ℕ) : Type 0 where
   pub repo : Linked
-  pub first : IsFirstText bytes repo
+  pub read : IsReadText bytes repo
   pub annotated : Linked
   pub is : IsAnnotated rounds repo annotated
   pub faithful : IsFaithful repo annotated
   pub written : out ≡ text annotated
 
--- it isn't of the first form
+-- it isn't of that form
 abbrev pub IsOtherText : List ℕ → Type 0
-IsOtherText bytes = (r : Linked) → IsFirstText bytes r → ⊥
+IsOtherText bytes = (r : Linked) → IsReadText bytes r → ⊥
 
 -- when a status comes, and what is to be written to standard output: from the words, what the source had left and has left
 -- now, and its count of faults before and now. Memory may be wanting wherever a text is read.

@@ -2,6 +2,7 @@
 #![tactic(auto)]
 
 mod annotation;
+mod claims;
 mod form;
 mod reader;
 mod status;

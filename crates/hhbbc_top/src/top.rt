@@ -13,7 +13,7 @@ use crate::form::{Main, read, reading_is_complete, reading_is_sound};
 use crate::reader::ReadFault;
 use crate::status::{Status, line_of};
 use crate::writer::text_of;
-use func_analyze::{annotated_is_faithful, chain_annotates};
+use func_analyze::{bare_chain_annotates, second_is_faithful};
 use hack_values::{NoMemory, Text};
 use hh_io::{ReadError, Sink, Source, read_all, write_all};
 use std::alloc::Global;
@@ -92,15 +92,15 @@ fn analyze<S: Source>(alloc: Global, source: &mut S) -> Result<Text, Status>
     }
 }
 
-/// The annotated text of a text of the first form.
+/// The annotated text of a text of the form that is read.
 fn answer_of(alloc: Global, text: &[u8]) -> Result<Text, Status>
     requires { length text.now ≤ LIMIT }
     ensures { MatchResult result (answers.IsAnnotatedText text.now) (λ s. ((s ≡ Status.NotYet) × answers.IsOtherText text.now) ⊎ (s ≡ Status.NoMemory)) }
 {
     reading_is_sound();
     reading_is_complete();
-    chain_annotates();
-    annotated_is_faithful();
+    bare_chain_annotates();
+    second_is_faithful();
     match read(alloc, text) {
         Ok(main) => written(alloc, main),
         Err(ReadFault::OtherForm) => Err(Status::NotYet),
