@@ -1,5 +1,5 @@
 -- The states along codes, one code at a time.
-use Rattle.std.proofs.Common.{◌≡◌, ℕ, refl, sym, ◌∙◌, ap, List, [], ◌∷◌, ◌++◌, append_assoc, map, Option, Some, None}
+use Rattle.std.proofs.Common.{◌≡◌, ◌∙◌, ap, List, [], ◌∷◌, ◌++◌, append_assoc, map, Option}
 use Rattle.type_lattice.specs.declared.types.HType.{HType}
 use Rattle.hhbc_repo.specs.declared.body.Position.{Position}
 use Rattle.abstract_step.specs.State.{State}

@@ -1,7 +1,7 @@
 -- Types and assertions as tokens: what is read of them, and what the grammar, linking, the form and the layout rule say of them.
-use Rattle.std.proofs.Common.{◌≡◌, ◌<◌, ◌≤◌, ◌+◌, inl, inr, ℕ, ℤ, zero, suc, pos, negsuc, nat_eq, nat_lt, nat_le, ◌==◌, refl, sym, ◌∙◌, ap, subst, Bool, true, false, ◌&&◌, ◌||◌, cond, List, [], ◌∷◌, ◌++◌, append-nil, append_assoc, length, length-append, Option, Some, None, codes, arith, leb-true, le-leb}
+use Rattle.std.proofs.Common.{◌≡◌, ◌<◌, ◌≤◌, inl, inr, ℕ, ℤ, suc, pos, negsuc, nat_eq, nat_lt, nat_le, ◌==◌, refl, sym, ◌∙◌, ap, subst, Bool, true, false, ◌||◌, cond, List, [], ◌∷◌, ◌++◌, length, Option, Some, None, codes, arith, leb-true, le-leb}
 use Rattle.std.specs.Cmp.Lexicographic.{pointwise}
-use Rattle.std.proofs.lemmas.Bool.Decides.{Decides-ltb, leb_tells}
+use Rattle.std.proofs.lemmas.Bool.Decides.{Decides-ltb}
 use Rattle.hhas_lex.specs.Tokens.{Token, Word, Local, Integer, Mark}
 use Rattle.type_lattice.specs.declared.types.HType.{HType}
 use Rattle.hhbc_repo.specs.declared.parts.AssertParts.{AssertParts}
@@ -11,15 +11,14 @@ use Rattle.hhbc_repo.specs.declared.body.Assert.{Assert}
 use Rattle.hhbc_repo.specs.declared.body.Assert.TheVariants as asserts
 use Rattle.hhbc_repo.specs.PlainTypes as types
 use Rattle.hhbc_repo.specs.PlainTypes.{TypeName, PlainType, Named, OneInt, type_word, type_named, one_int, type_of, type_tokens, IsPlainType}
-use Rattle.hhbc_repo.specs.Form.{FitsAssert, FitAsserts}
-use Rattle.hhbc_repo.specs.Grammar.{AType, AnAssert, Asserts}
-use Rattle.hhbc_repo.specs.Linking.{place_of, LinksType, LinksAssert, LinksAsserts}
-use Rattle.hhbc_repo.specs.Shapes.{assert_reach, reaches}
+use Rattle.hhbc_repo.specs.Form.{FitsAssert}
+use Rattle.hhbc_repo.specs.Grammar.{AType, AnAssert}
+use Rattle.hhbc_repo.specs.Linking.{LinksType, LinksAssert}
+use Rattle.hhbc_repo.specs.Shapes.{assert_reach}
 use Rattle.hhbbc_top.specs.Pieces.{word_in, integer_in}
-use Rattle.hhbbc_top.specs.Reading.{chain, number_in, typed_among, other_types, word_type, any_int, Behind, int_with, type_with, word_behind, typed_word, index_of, index_in, subject_in, claim_in, is_claim, Claims, behind_claim, claims_from}
+use Rattle.hhbbc_top.specs.Reading.{chain, number_in, typed_among, other_types, word_type, any_int, Behind, int_with, type_with, word_behind, typed_word, index_of, index_in, subject_in, claim_in, is_claim}
 use Rattle.hhbbc_top.proofs.Fronts.{chain-some, cond-then, cond-either, some-is, same-word, same-number, word_in-some, integer_in-some}
-use Rattle.hhbbc_top.proofs.Operands.{NumberRead, number-read, number-given, place-below}
-use Rattle.hhbbc_top.proofs.ClaimsRead.{claims-end, claims-more}
+use Rattle.hhbbc_top.proofs.Operands.{NumberRead, number-read, place-below}
 
 -- types
 named-is : (all : List TypeName) (word : List ℕ) (t : HType) → typed_among all word ≡ Some t → (n : TypeName) × (word ≡ type_word n) × (type_named n ≡ t)

@@ -1,11 +1,11 @@
 -- Assertions read one by one.
-use Rattle.std.proofs.Common.{◌≡◌, ℕ, zero, suc, refl, sym, ◌∙◌, ap, Bool, true, false, List, [], ◌∷◌, ◌++◌, append_assoc, append-nil, Option, Some, None, Result, Ok, Err}
+use Rattle.std.proofs.Common.{◌≡◌, ℕ, zero, suc, refl, sym, ◌∙◌, ap, true, false, List, [], ◌∷◌, ◌++◌, append_assoc, append-nil, Option, Some, None, Err}
 use Rattle.hhas_lex.specs.Tokens.{Token}
 use Rattle.hhbc_repo.specs.declared.body.Assert.{Assert}
 use Rattle.hhbbc_top.specs.declared.reader.ReadFault.{ReadFault}
 use Rattle.hhbbc_top.specs.declared.reader.ReadFault.TheVariants.{OtherForm, NoMemory}
 use Rattle.hhbbc_top.specs.Pieces.{GivesBy}
-use Rattle.hhbbc_top.specs.Reading.{chain, is_claim, claim_in, Claims, behind_claim, claims_from, claims_prepended}
+use Rattle.hhbbc_top.specs.Reading.{is_claim, claim_in, Claims, behind_claim, claims_from, claims_prepended}
 
 prepended-one : (out : List Assert) (a : Assert) (o : Claims) → claims_prepended out (behind_claim a o) ≡ claims_prepended (out ++ a ∷ []) o
 prepended-one out a None = refl

@@ -1,5 +1,5 @@
 -- Codes read one by one.
-use Rattle.std.proofs.Common.{◌≡◌, ℕ, zero, suc, ◌+◌, ◌≤◌, arith, refl, sym, ◌∙◌, ap, Bool, true, false, cond, List, [], ◌∷◌, ◌++◌, append_assoc, Option, Some, None, Result, Ok, Err}
+use Rattle.std.proofs.Common.{◌≡◌, ℕ, zero, suc, ◌+◌, ◌≤◌, arith, refl, sym, ◌∙◌, ap, true, false, List, [], ◌∷◌, ◌++◌, append_assoc, Option, Some, None, Err}
 use Rattle.hhas_lex.specs.Tokens.{Token}
 use Rattle.hhbbc_top.specs.declared.reader.ReadFault.{ReadFault}
 use Rattle.hhbbc_top.specs.declared.reader.ReadFault.TheVariants.{OtherForm, NoMemory}
@@ -7,7 +7,7 @@ use Rattle.hhbbc_top.specs.declared.form.Step.{Step}
 use Rattle.hhbbc_top.specs.declared.form.Step.TheVariants as steps
 use Rattle.hhbbc_top.specs.Pieces.{Gives, GivesBy, word_in}
 use Rattle.hhbbc_top.specs.declared.form.Line.{Line}
-use Rattle.hhbbc_top.specs.Reading.{chain, line_in, depth_behind, is_return, behind_one, codes_from, prepended}
+use Rattle.hhbbc_top.specs.Reading.{line_in, depth_behind, is_return, behind_one, codes_from, prepended}
 
 abbrev Coded : Type 0
 Coded = Option (List Line × List Token)

@@ -1,5 +1,5 @@
 -- A text has no more tokens than bytes, and one for its end.
-use Rattle.std.proofs.Common.{◌≤◌, ℕ, zero, suc, List, [], ◌∷◌, length, drop, arith}
+use Rattle.std.proofs.Common.{◌≤◌, ℕ, zero, suc, List, length, drop, arith}
 use Rattle.hhas_lex.specs.Tokens.{Token, Directive, Word, Local, Integer, Str, Mark, LessEqual, End, Bad, first, past_first, followed, tokens_within, tokens}
 use Rattle.hhbbc_top.specs.Reading.{max_claims}
 use Rattle.hhbbc_top.specs.ReadText.{limit}

@@ -1,5 +1,5 @@
 -- Assertions before a code, and codes with their assertions, cs tokens.
-use Rattle.std.proofs.Common.{◌≡◌, ◌<◌, ◌≤◌, ◌+◌, inl, inr, ℕ, zero, suc, pos, nat_le, refl, sym, ◌∙◌, ap, subst, Bool, true, false, ◌&&◌, cond, List, [], ◌∷◌, ◌++◌, append-nil, append_assoc, length, length-append, Option, Some, None, codes, arith, leb-true, le-leb}
+use Rattle.std.proofs.Common.{◌≡◌, ◌<◌, ◌≤◌, ◌+◌, inl, inr, ℕ, zero, suc, pos, nat_le, refl, sym, ◌∙◌, ap, subst, Bool, true, false, ◌&&◌, List, [], ◌∷◌, ◌++◌, append_assoc, length, length-append, Option, Some, None, codes, arith, leb-true}
 use Rattle.hhas_lex.specs.Tokens.{Token, Word, Local, Integer}
 use Rattle.type_lattice.specs.declared.types.HType.{HType}
 use Rattle.hhbc_repo.specs.declared.parts.AssertParts.{AssertParts}
@@ -9,13 +9,13 @@ use Rattle.hhbc_repo.specs.declared.parts.TypeParts.{TypeParts}
 use Rattle.hhbc_repo.specs.declared.body.Assert.{Assert}
 use Rattle.hhbc_repo.specs.declared.body.Assert.TheVariants as asserts
 use Rattle.hhbc_repo.specs.declared.body.Position.{Position}
-use Rattle.hhbc_repo.specs.Form.{FitsAssert, FitAsserts, FitsClaimed}
+use Rattle.hhbc_repo.specs.Form.{FitAsserts, FitsClaimed}
 use Rattle.hhbc_repo.specs.Grammar.{AType, AnAssert, Asserts, APosition}
-use Rattle.hhbc_repo.specs.Linking.{place_of, LinksType, LinksAssert, LinksAsserts, LinksPosition}
+use Rattle.hhbc_repo.specs.Linking.{LinksType, LinksAssert, LinksAsserts, LinksPosition}
 use Rattle.hhbc_repo.specs.Shapes.{assert_reach, reaches}
 use Rattle.hhbbc_top.specs.declared.form.Step.{Step}
 use Rattle.hhbbc_top.specs.declared.form.Line.{Line}
-use Rattle.hhbbc_top.specs.Reading.{chain, type_with, word_behind, typed_word, index_of, index_in, claim_in, is_claim, Claims, behind_claim, claims_from, max_claims, step_in, line_in, subject_in, number_in}
+use Rattle.hhbbc_top.specs.Reading.{chain, word_behind, typed_word, claim_in, is_claim, Claims, behind_claim, claims_from, max_claims, step_in, line_in}
 use Rattle.hhbbc_top.specs.Forms.{position_of}
 use Rattle.hhbbc_top.proofs.Fronts.{chain-some, cond-either, some-is}
 use Rattle.hhbbc_top.proofs.Operands.{StepRead, step-read, CodeGiven, code-given, number-given}

@@ -10,24 +10,22 @@ use Rattle.hhbc_ops.specs.declared.op.Op.TheVariants as ops
 use Rattle.hhbc_ops.specs.declared.words.ImmKind.{ImmKind}
 use Rattle.hhbc_ops.specs.declared.words.ImmKind.TheVariants as kinds
 use Rattle.hhbc_ops.specs.Ops.{op_name, kinds_of}
-use Rattle.hhbc_repo.specs.declared.parts.PositionParts.{PositionParts}
 use Rattle.hhbc_repo.specs.declared.parts.CodeParts.{CodeParts}
 use Rattle.hhbc_repo.specs.declared.parts.CodeParts.TheVariants as forms
 use Rattle.hhbc_repo.specs.declared.parts.ImmParts.{ImmParts}
 use Rattle.hhbc_repo.specs.declared.parts.ImmParts.TheVariants as parts
-use Rattle.hhbc_repo.specs.declared.body.Position.{Position}
 use Rattle.hhbc_repo.specs.declared.code.Code.{Code}
 use Rattle.hhbc_repo.specs.declared.code.Code.TheVariants as codes
 use Rattle.hhbc_repo.specs.declared.code.Imm.{Imm}
 use Rattle.hhbc_repo.specs.declared.code.Imm.TheVariants as imms
-use Rattle.hhbc_repo.specs.Form.{FitsOperands, FitsCode, FitsPosition}
-use Rattle.hhbc_repo.specs.Grammar.{Operand, Operands, APosition, ACode}
-use Rattle.hhbc_repo.specs.Linking.{place_of, LinksOperand, LinksOperands, LinksCode, LinksPosition}
+use Rattle.hhbc_repo.specs.Form.{FitsOperands, FitsCode}
+use Rattle.hhbc_repo.specs.Grammar.{Operand, Operands, ACode}
+use Rattle.hhbc_repo.specs.Linking.{place_of, LinksOperand, LinksOperands, LinksCode}
 use Rattle.hhbbc_top.specs.declared.form.Step.{Step}
 use Rattle.hhbbc_top.specs.declared.form.Step.TheVariants as steps
 use Rattle.hhbbc_top.specs.Pieces.{local_in, integer_in}
 use Rattle.hhbbc_top.specs.Reading.{chain, named_among, all_ops, op_of, is_claim, number_in, with_int, with_number, step_of, step_in}
-use Rattle.hhbbc_top.specs.Forms.{plain, code_of, position_of}
+use Rattle.hhbbc_top.specs.Forms.{plain, code_of}
 use Rattle.hhbbc_top.proofs.Fronts.{chain-some, cond-either, some-is, same-word, integer_in-some}
 use Rattle.hhbbc_top.proofs.Names.{op_of-name}
 use Rattle.hhbbc_top.proofs.Naming.{local_in-some}

@@ -13,9 +13,9 @@ use Rattle.hhbc_repo.specs.Walks.{walks_asserted}
 use Rattle.hhbc_repo.proofs.Walking.{types_where_asserted_walks}
 use Rattle.hhbbc_top.specs.declared.form.Main.{Main}
 use Rattle.hhbbc_top.specs.Pieces.{word_in}
-use Rattle.hhbbc_top.specs.Reading.{chain, max_claims, brace_behind, typed_brace, stated_in, main_with, coded, declared_in, inner_in, closing_in, main_in}
+use Rattle.hhbbc_top.specs.Reading.{chain, max_claims, brace_behind, stated_in, main_with, coded, declared_in, inner_in, closing_in, main_in}
 use Rattle.hhbbc_top.specs.Forms.{body_of}
-use Rattle.hhbbc_top.specs.ReadText.{limit, ReadingIsComplete}
+use Rattle.hhbbc_top.specs.ReadText.{ReadingIsComplete}
 use Rattle.hhbbc_top.proofs.LocalNames.{names-given}
 use Rattle.hhbbc_top.proofs.CodeLists.{CodesGiven, codes-given}
 use Rattle.hhbbc_top.proofs.Assertions.{type-given}

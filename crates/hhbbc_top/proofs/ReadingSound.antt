@@ -9,7 +9,7 @@ use Rattle.hhbc_repo.specs.declared.parts.BodyParts.{BodyParts}
 use Rattle.hhbc_repo.specs.declared.parts.ItemParts.{ItemParts}
 use Rattle.type_lattice.specs.declared.types.HType.{HType}
 use Rattle.hhbc_repo.specs.declared.parts.TypeParts.{TypeParts}
-use Rattle.hhbc_repo.specs.PlainTypes.{type_of, type_tokens}
+use Rattle.hhbc_repo.specs.PlainTypes.{type_tokens}
 use Rattle.hhbc_repo.specs.Form.{AllDiffer, FitsStated, FitClaimed, IsSecondForm}
 use Rattle.hhbc_repo.specs.Grammar.{Locals, Declared, Items, Returns, AFunction, AText}
 use Rattle.hhbc_repo.specs.Linking.{LinksItems, LinksStated, LinksBody, Links}

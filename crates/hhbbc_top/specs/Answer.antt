@@ -1,9 +1,9 @@
 -- What each status says, and when it comes.
-use Rattle.std.specs.Prelude.{◌≡◌, ◌≢◌, ◌⊎◌, ℕ, List, [], ◌∷◌, Option, Some, None, Result, Ok, Err, is_some, false, IfSome, codes}
+use Rattle.std.specs.Prelude.{◌≡◌, ◌≢◌, ◌⊎◌, ℕ, List, [], ◌∷◌, Option, Result, Ok, Err, IfSome, codes}
 use Rattle.std.specs.Io.KnownBytes.{IsAtEnd}
 use Rattle.hh_io.specs.Counts.{Rose}
 use Rattle.hh_io.specs.Sources.{IsLonger, IsWithin}
-use Rattle.hh_io.specs.Sinks.{Takes, TakesNothing, TakesPart}
+use Rattle.hh_io.specs.Sinks.{Takes, TakesPart}
 use Rattle.hhbc_repo.specs.Linked.{Linked}
 use Rattle.hhbc_repo.specs.Text.{text}
 use Rattle.hhbc_repo.specs.Truth.{IsFaithful}

@@ -1,5 +1,5 @@
 -- Texts of the form that is read.
-use Rattle.std.specs.Prelude.{◌≡◌, ◌≤◌, ℕ, false, List, Option, Some, length}
+use Rattle.std.specs.Prelude.{◌≡◌, ◌≤◌, ℕ, false, List, Some, length}
 use Rattle.hhas_lex.specs.Tokens.{tokens}
 use Rattle.hhbc_repo.specs.declared.parts.BodyParts.{BodyParts}
 use Rattle.hhbc_repo.specs.Linked.{Linked}

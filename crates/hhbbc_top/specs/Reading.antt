@@ -1,9 +1,9 @@
 -- A text, as it is read from the front.
-use Rattle.std.specs.Prelude.{◌≡◌, ℕ, zero, suc, ◌+◌, ◌-◌, ℤ, pos, negsuc, Bool, true, false, ◌||◌, nat_eq, nat_le, nat_lt, ◌==◌, List, [], ◌∷◌, ◌++◌, length, Option, Some, None, is_some, if◌then◌else◌, codes}
+use Rattle.std.specs.Prelude.{ℕ, zero, suc, ℤ, pos, negsuc, Bool, true, false, ◌||◌, nat_eq, nat_le, nat_lt, ◌==◌, List, [], ◌∷◌, ◌++◌, length, Option, Some, None, is_some, if◌then◌else◌, codes}
 use Rattle.std.specs.List.{list_any}
 use Rattle.std.specs.Cmp.Lexicographic.{pointwise}
 use Rattle.std.specs.Ordering.{int_eq}
-use Rattle.hhas_lex.specs.Tokens.{Token, Directive, Word, Local, Integer, Mark, End, tokens}
+use Rattle.hhas_lex.specs.Tokens.{Token, Directive, Word, Local, Mark, tokens}
 use Rattle.hhbc_ops.specs.declared.op.Op.{Op}
 use Rattle.hhbc_ops.specs.declared.op.Op.TheVariants as ops
 use Rattle.hhbc_ops.specs.Ops.{op_name}

@@ -1,4 +1,4 @@
-use Rattle.std.proofs.Common.{◌≡◌, suc, ◌+◌, ◌++◌, ◌∷◌, List, drop, get_or, add-one, drop-cons, ap, sym, ◌∙◌}
+use Rattle.std.proofs.Common.{◌≡◌, suc, ◌+◌, ◌++◌, ◌∷◌, List, drop, add-one, drop-cons, ap, sym, ◌∙◌}
 use Rattle.hhbbc_top.specs.declared.form.Line.{Line}
 use Rattle.hhbbc_top.specs.Forms.{state_of, if_reached}
 use Rattle.hhbbc_top.proofs.Along.{stated, end_of, stated-turn, end_of-turn}

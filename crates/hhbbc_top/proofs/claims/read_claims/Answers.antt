@@ -1,7 +1,6 @@
 use Rattle.std.specs.Borrow.{Bor}
-use Rattle.std.proofs.Common.{◌≡◌, ℕ, List, ◌-◌, ◌+◌, suc, refl, sym, ◌∙◌, ap, arith}
+use Rattle.std.proofs.Common.{◌≡◌, ℕ, List, ◌-◌, ◌+◌, sym, arith}
 use Rattle.std.proofs.lemmas.Result.{err_from_is_err_and}
-use Rattle.hack_values.specs.declared.seq.Seq.{Seq}
 use Rattle.hhbc_repo.specs.declared.body.Assert.{Assert}
 use Rattle.hhbbc_top.proofs.ClaimsRead.{claims-turn, claims-ended, claims-none, claims-zero, claims-lost, err-claimed}
 use Rattle.hhbbc_top.proofs.claims.read_claims.Goals as goal

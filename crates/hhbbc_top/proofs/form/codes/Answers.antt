@@ -1,7 +1,7 @@
 use Rattle.std.specs.Borrow.{Bor}
-use Rattle.std.proofs.Common.{◌≡◌, ℕ, List, ◌-◌, ◌+◌, suc, refl, sym, ◌∙◌, ap, arith}
+use Rattle.std.proofs.Common.{◌≡◌, ℕ, List, ◌-◌, ◌+◌, sym, arith}
 use Rattle.std.proofs.lemmas.Result.{err_from_is_err_and}
-use Rattle.hhbbc_top.proofs.Coding.{prepended-nil, codes-zero, codes-no_step, codes-too_deep, codes-no_word, codes-turn, codes-ended, none-told, depth-bound, err-told, err-told_by}
+use Rattle.hhbbc_top.proofs.Coding.{codes-zero, codes-no_step, codes-too_deep, codes-no_word, codes-turn, codes-ended, none-told, depth-bound, err-told, err-told_by}
 use Rattle.hhbbc_top.proofs.form.codes.Goals as goal
 
 pub returns-in_err-line : goal.returns-in_err-line

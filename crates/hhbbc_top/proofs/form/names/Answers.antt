@@ -1,4 +1,4 @@
-use Rattle.std.proofs.Common.{◌≡◌, ℕ, List, [], ◌∷◌, ◌++◌, nat_le, ◌≤◌, ◌<◌, false, is_some, length, length-append, refl, sym, ◌∙◌, ap, arith}
+use Rattle.std.proofs.Common.{◌≡◌, ℕ, List, [], ◌∷◌, ◌++◌, nat_le, ◌<◌, false, is_some, length, length-append, sym, ◌∙◌, ap, arith}
 use Rattle.std.proofs.lemmas.Bool.Decides.{nat_tests}
 use Rattle.hhbc_repo.specs.Linking.{place_of}
 use Rattle.hhbbc_top.proofs.Naming.{names-turn}

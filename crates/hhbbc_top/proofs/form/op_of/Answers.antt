@@ -1,4 +1,3 @@
-use Rattle.std.proofs.Common.{◌≡◌}
 use Rattle.hhbbc_top.proofs.Names.{op_of-name, op_of-none}
 use Rattle.hhbbc_top.proofs.form.op_of.Goals as goal
 

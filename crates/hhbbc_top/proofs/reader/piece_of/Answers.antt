@@ -1,4 +1,4 @@
-use Rattle.std.proofs.Common.{◌≡◌, drop, ap}
+use Rattle.std.proofs.Common.{drop, ap}
 use Rattle.hhas_lex.specs.declared.token.TokenKind.{TokenKind}
 use Rattle.hhas_lex.specs.Strings.{value_of}
 use Rattle.hhas_lex.specs.Tokens.{token_of}

@@ -1,4 +1,4 @@
-use Rattle.std.proofs.Common.{◌≡◌, refl, inl}
+use Rattle.std.proofs.Common.{refl, inl}
 use Rattle.hhbbc_top.proofs.Headline.{answer-of, other-text}
 use Rattle.hhbbc_top.proofs.top.answer_of.Goals as goal
 

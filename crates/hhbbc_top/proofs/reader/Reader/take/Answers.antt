@@ -1,4 +1,4 @@
-use Rattle.std.proofs.Common.{◌≡◌, List, ℕ, ◌-◌, take, drop, refl, sym, ◌∙◌, ap, subst}
+use Rattle.std.proofs.Common.{List, ℕ, ◌-◌, take, drop, refl, sym, ◌∙◌, ap, subst}
 use Rattle.hhas_lex.specs.Tokens.{Token, Bad, left, token_of}
 use Rattle.hhbbc_top.specs.Pieces.{Takes}
 use Rattle.hhbbc_top.proofs.TokenLists.{last-token, takes-first}
