@@ -11,3 +11,4 @@ mod Sound
 mod Trimmed
 mod Unique
 pub mod Putting
+pub mod SecondForm

@@ -6,7 +6,7 @@ use Rattle.hhbc_repo.specs.declared.code.Code.TheVariants as kinds
 use Rattle.hhbc_repo.specs.declared.body.Position.{Position}
 use Rattle.hhbc_repo.specs.Codes.{int_of}
 use Rattle.hhbc_repo.specs.Linked.{Linked}
-use Rattle.hhbc_repo.specs.Form.{IsFirstForm}
+use Rattle.hhbc_repo.specs.Form.{IsFirstForm, IsSecondForm}
 use Rattle.hhbc_repo.specs.Bare.{bare}
 use Rattle.hhbc_repo.specs.Truth.{Facts, AreTrue, IsFaithful}
 use Rattle.hhbc_repo.specs.Shapes.{Types}
@@ -46,3 +46,15 @@ AnnotatedIsUnique = (r a : Linked) (form : IsFirstForm r) → AreWords form.body
 -- the facts after any number of rounds are true in every run
 abbrev pub FactsAreTrue : Type 0
 FactsAreTrue = (r : Linked) → IsFirstForm r → (n : ℕ) (F : Facts) → IsFacts (bare r) n F → AreTrue r F
+
+-- a repository of the second form is annotated along its codes as they stand without claims
+abbrev pub BareChainAnnotates : Type 0
+BareChainAnnotates = (r : Linked) → IsSecondForm r → (n : ℕ) → IsAnnotated (suc n) r (annotated_by (bare r))
+
+-- the annotated repository of one of the second form is faithful to it
+abbrev pub SecondIsFaithful : Type 0
+SecondIsFaithful = (r a : Linked) → IsSecondForm r → Types r → (n : ℕ) → IsAnnotated (suc n) r a → IsFaithful r a
+
+-- a repository of the second form has one annotated repository
+abbrev pub SecondIsUnique : Type 0
+SecondIsUnique = (r a : Linked) (form : IsSecondForm r) → AreWords form.body.positions → (n : ℕ) → IsAnnotated (suc n) r a → a ≡ annotated_by (bare r)

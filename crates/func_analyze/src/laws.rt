@@ -1,6 +1,6 @@
 //! Laws of the definitions, each the contract of a function that does nothing.
 
-ghost use Rattle.func_analyze.specs.Laws.{AnnotatedIsFaithful, AnnotatedIsUnique, ChainAnnotates, ChainIsLeast, FactsAreTrue};
+ghost use Rattle.func_analyze.specs.Laws.{AnnotatedIsFaithful, AnnotatedIsUnique, BareChainAnnotates, ChainAnnotates, ChainIsLeast, FactsAreTrue, SecondIsFaithful, SecondIsUnique};
 
 /// The states along a body without jumps, each made from the one before it, are its least solution.
 pub fn chain_is_least()
@@ -28,4 +28,23 @@ pub fn annotated_is_unique()
 /// The facts after any number of rounds are true in every run of a repository of the first form.
 pub fn facts_are_true()
     ensures { FactsAreTrue }
+{}
+
+/// What the states along the codes return and assert is the annotated repository of one of the
+/// second form, whose own claims don't count, after any number of rounds from 1.
+pub fn bare_chain_annotates()
+    ensures { BareChainAnnotates }
+{}
+
+/// A repository of the second form that keeps to its shapes, annotated after any number of rounds
+/// from 1, runs as before with its assertions tested; all its claims are true in every run, and no
+/// run of either is stuck.
+pub fn second_is_faithful()
+    ensures { SecondIsFaithful }
+{}
+
+/// A repository of the second form, whose ints are of 64 bits, has one annotated repository after any
+/// number of rounds from 1.
+pub fn second_is_unique()
+    ensures { SecondIsUnique }
 {}

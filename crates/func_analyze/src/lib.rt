@@ -10,7 +10,8 @@ mod tests;
 mod worklist;
 
 pub use laws::{
-    annotated_is_faithful, annotated_is_unique, chain_annotates, chain_is_least, facts_are_true,
+    annotated_is_faithful, annotated_is_unique, bare_chain_annotates, chain_annotates,
+    chain_is_least, facts_are_true, second_is_faithful, second_is_unique,
 };
 pub use problem::Problem;
 pub use solution_laws::{

@@ -1,5 +1,5 @@
 -- The codes of a body as tokens: what is read of them, and what the grammar, linking, the form and the layout rule say of them.
-use Rattle.std.proofs.Common.{◌≡◌, ◌≤◌, ◌+◌, ◌-◌, inl, inr, ℕ, zero, suc, nat_le, refl, sym, ◌∙◌, ap, subst, Bool, true, false, ◌&&◌, cond, List, [], ◌∷◌, ◌++◌, append-nil, append_assoc, map, length, Option, Some, None, arith}
+use Rattle.std.proofs.Common.{◌≡◌, ◌≤◌, ◌<◌, length-append, ◌+◌, ◌-◌, inl, inr, ℕ, zero, suc, nat_le, refl, sym, ◌∙◌, ap, subst, Bool, true, false, ◌&&◌, cond, List, [], ◌∷◌, ◌++◌, append-nil, append_assoc, map, length, Option, Some, None, arith}
 use Rattle.std.proofs.lemmas.Bool.Decides.{leb_tells}
 use Rattle.hhas_lex.specs.Tokens.{Token, Word}
 use Rattle.hhbc_repo.specs.declared.parts.ItemParts.{ItemParts}
@@ -7,18 +7,20 @@ use Rattle.hhbc_repo.specs.declared.parts.ItemParts.TheVariants as items
 use Rattle.hhbc_repo.specs.declared.parts.PositionParts.{PositionParts}
 use Rattle.hhbc_repo.specs.declared.body.Position.{Position}
 use Rattle.hhbc_repo.specs.Codes.{pops, pushes}
-use Rattle.hhbc_repo.specs.Form.{FitsPosition, FitPositions, IsReturn}
+use Rattle.hhbc_repo.specs.Form.{FitsClaimed, FitClaimed, IsReturn}
 use Rattle.hhbc_repo.specs.Grammar.{APosition, Items}
 use Rattle.hhbc_repo.specs.Linking.{LinksPosition, LinksItems}
-use Rattle.hhbc_repo.specs.Walks.{walks}
+use Rattle.hhbc_repo.specs.Shapes.{reaches}
+use Rattle.hhbc_repo.specs.Walks.{walks_asserted}
 use Rattle.hhbbc_top.specs.declared.form.Step.{Step}
 use Rattle.hhbbc_top.specs.declared.form.Step.TheVariants as steps
+use Rattle.hhbbc_top.specs.declared.form.Line.{Line}
 use Rattle.hhbbc_top.specs.Pieces.{word_in}
-use Rattle.hhbbc_top.specs.Reading.{chain, step_in, depth_behind, is_return, behind_one, codes_from}
+use Rattle.hhbbc_top.specs.Reading.{chain, max_claims, line_in, depth_behind, is_return, behind_one, codes_from}
 use Rattle.hhbbc_top.specs.Forms.{code_of, position_of}
 use Rattle.hhbbc_top.proofs.Coding.{codes-last, codes-more}
 use Rattle.hhbbc_top.proofs.Fronts.{chain-some, cond-either, some-is, word_in-some}
-use Rattle.hhbbc_top.proofs.Operands.{StepRead, step-read, StepGiven, step-given}
+use Rattle.hhbbc_top.proofs.Lines.{LineRead, line-read, LineGiven, line-given}
 
 -- tests
 is-below : (a b : ℕ) → a ≤ b → nat_le a b ≡ true
@@ -40,10 +42,10 @@ both-right false b e = absurd (cc)
 abbrev deep : Step → ℕ → ℕ
 deep s depth = length (pushes (code_of s)) + (depth - length (pops (code_of s)))
 
-abbrev reaches : Step → ℕ → Bool
-reaches s depth = nat_le (length (pops (code_of s))) depth
+abbrev finds : Step → ℕ → Bool
+finds s depth = nat_le (length (pops (code_of s))) depth
 
-depth-walks : (s : Step) (depth n : ℕ) → depth_behind s depth ≡ Some n → (reaches s depth ≡ true) × (deep s depth ≡ n)
+depth-walks : (s : Step) (depth n : ℕ) → depth_behind s depth ≡ Some n → (finds s depth ≡ true) × (deep s depth ≡ n)
 depth-walks steps.Null depth n e = let f : suc depth ≡ n = cc in (is-below 0 depth (omega arith), omega (arith, f))
 depth-walks steps.True depth n e = let f : suc depth ≡ n = cc in (is-below 0 depth (omega arith), omega (arith, f))
 depth-walks steps.False depth n e = let f : suc depth ≡ n = cc in (is-below 0 depth (omega arith), omega (arith, f))
@@ -65,7 +67,7 @@ popped depth = ap (λ (n : ℕ). Some n) (let e : depth ≡ 0 + (suc depth - 1) 
 replaced : (depth : ℕ) → Some (suc depth) ≡ Some (1 + (suc depth - 1))
 replaced depth = ap (λ (n : ℕ). Some n) (let e : suc depth ≡ 1 + (suc depth - 1) = omega arith in e)
 
-walks-depth : (s : Step) (depth : ℕ) → reaches s depth ≡ true → depth_behind s depth ≡ Some (deep s depth)
+walks-depth : (s : Step) (depth : ℕ) → finds s depth ≡ true → depth_behind s depth ≡ Some (deep s depth)
 walks-depth steps.Null depth e = pushed depth
 walks-depth steps.True depth e = pushed depth
 walks-depth steps.False depth e = pushed depth
@@ -119,84 +121,84 @@ stays-from (steps.SetL l) h = refl
 stays-from (steps.CGetL l) h = refl
 stays-from steps.RetC h = absurd (h refl)
 
-fits-more : (count : ℕ) (p : Position) (ps : List Position) → FitsPosition count p → (IsReturn p.code → ⊥) → FitPositions count ps → FitPositions count (p ∷ ps)
+fits-more : (count : ℕ) (p : Position) (ps : List Position) → FitsClaimed count p → (IsReturn p.code → ⊥) → FitClaimed count ps → FitClaimed count (p ∷ ps)
 fits-more count p [] f n more = absurd more
 fits-more count p (q ∷ qs) f n more = (f, n, more)
 
 -- codes as they were read
-pub record CodesRead (n : ℕ) (locals : List (List ℕ)) (depth : ℕ) (name : List ℕ) (ts : List Token) (codes : List Step) (rest : List Token) : Type 0 where
+pub record CodesRead (n : ℕ) (locals : List (List ℕ)) (depth : ℕ) (name : List ℕ) (ts : List Token) (codes : List Line) (rest : List Token) : Type 0 where
   pub spelled : List Token
   pub items : List ItemParts
   pub spells : Items spelled items
   pub links : LinksItems locals items (map position_of codes)
-  pub fits : FitPositions (length locals) (map position_of codes)
-  pub walked : walks depth (map position_of codes) ≡ true
+  pub fits : FitClaimed (length locals) (map position_of codes)
+  pub walked : walks_asserted depth (map position_of codes) ≡ true
   pub few : length codes ≤ n
   pub split : Word name ∷ ts ≡ spelled ++ rest
 
-last-read : (n : ℕ) (locals : List (List ℕ)) (depth d : ℕ) (name : List ℕ) (ts us : List Token) (s : Step) → StepRead locals name ts us s → depth_behind s depth ≡ Some d
-    → is_return s ≡ true → CodesRead (suc n) locals depth name ts (s ∷ []) us
+last-read : (n : ℕ) (locals : List (List ℕ)) (depth d : ℕ) (name : List ℕ) (ts us : List Token) (s : Line) → LineRead locals depth name ts us s → depth_behind s.step depth ≡ Some d
+    → is_return s.step ≡ true → CodesRead (suc n) locals depth name ts (s ∷ []) us
 last-read n locals depth d name ts us s r e back = record {
   spelled = r.spelled;
   items = items.Position r.part ∷ [];
   spells = (r.spelled, [], r.spells, refl, sym (append-nil r.spelled));
   links = (r.links, tt);
-  fits = (r.fits, returns s back);
-  walked = both (reaches s depth) true (depth-walks s depth d e).0 refl;
+  fits = (r.fits, returns s.step back);
+  walked = both (reaches s.asserts depth && finds s.step depth) true (both (reaches s.asserts depth) (finds s.step depth) r.reach (depth-walks s.step depth d e).0) refl;
   few = omega arith;
   split = r.split;
 }
 
-next-read : (n : ℕ) (locals : List (List ℕ)) (depth d : ℕ) (name word : List ℕ) (ts us vs rest : List Token) (s : Step) (more : List Step) → StepRead locals name ts us s
-    → depth_behind s depth ≡ Some d → is_return s ≡ false → us ≡ Word word ∷ vs → CodesRead n locals d word vs more rest → CodesRead (suc n) locals depth name ts (s ∷ more) rest
+next-read : (n : ℕ) (locals : List (List ℕ)) (depth d : ℕ) (name word : List ℕ) (ts us vs rest : List Token) (s : Line) (more : List Line) → LineRead locals depth name ts us s
+    → depth_behind s.step depth ≡ Some d → is_return s.step ≡ false → us ≡ Word word ∷ vs → CodesRead n locals d word vs more rest → CodesRead (suc n) locals depth name ts (s ∷ more) rest
 next-read n locals depth d name word ts us vs rest s more r e on w m =
-    let f : (reaches s depth ≡ true) × (deep s depth ≡ d) = depth-walks s depth d e in
+    let f : (finds s.step depth ≡ true) × (deep s.step depth ≡ d) = depth-walks s.step depth d e in
     let bound : length more ≤ n = m.few in
     record {
       spelled = r.spelled ++ m.spelled;
       items = items.Position r.part ∷ m.items;
       spells = (r.spelled, m.spelled, r.spells, m.spells, refl);
       links = (r.links, m.links);
-      fits = fits-more (length locals) (position_of s) (map position_of more) r.fits (stays s on) m.fits;
-      walked = both (reaches s depth) (walks (deep s depth) (map position_of more)) f.0 (subst (λ (k : ℕ). walks k (map position_of more) ≡ true) (sym f.1) m.walked);
+      fits = fits-more (length locals) (position_of s) (map position_of more) r.fits (stays s.step on) m.fits;
+      walked = both (reaches s.asserts depth && finds s.step depth) (walks_asserted (deep s.step depth) (map position_of more)) (both (reaches s.asserts depth) (finds s.step depth) r.reach f.0) (subst (λ (k : ℕ). walks_asserted k (map position_of more) ≡ true) (sym f.1) m.walked);
       few = omega (arith, bound);
       split = r.split ∙ ap (λ (l : List Token). r.spelled ++ l) (w ∙ m.split) ∙ sym (append_assoc r.spelled m.spelled rest);
     }
 
 abbrev Found : Type 0
-Found = Option (List Step × List Token)
+Found = Option (List Line × List Token)
 
-behind-some : (s : Step) (o : Found) (y : List Step × List Token) → behind_one s o ≡ Some y → (x : List Step × List Token) × (o ≡ Some x) × (◌≡◌ {A = List Step × List Token} (s ∷ x.0, x.1) y)
+behind-some : (s : Line) (o : Found) (y : List Line × List Token) → behind_one s o ≡ Some y → (x : List Line × List Token) × (o ≡ Some x) × (◌≡◌ {A = List Line × List Token} (s ∷ x.0, x.1) y)
 behind-some s None y e = absurd (cc)
 behind-some s (Some x) y e = (x, refl, some-is (s ∷ x.0, x.1) y e)
 
 abbrev Told : ℕ → List (List ℕ) → Type 0
-Told n locals = (depth : ℕ) (name : List ℕ) (ts : List Token) (codes : List Step) (rest : List Token) → codes_from n locals depth name ts ≡ Some (codes, rest)
+Told n locals = (depth : ℕ) (name : List ℕ) (ts : List Token) (codes : List Line) (rest : List Token) → codes_from n locals depth name ts ≡ Some (codes, rest)
     → CodesRead n locals depth name ts codes rest
 
-behind-read : (n : ℕ) (locals : List (List ℕ)) (depth d : ℕ) (name : List ℕ) (ts us : List Token) (s : Step) (codes : List Step) (rest : List Token) → Told n locals
-    → StepRead locals name ts us s → depth_behind s depth ≡ Some d → is_return s ≡ false
+behind-read : (n : ℕ) (locals : List (List ℕ)) (depth d : ℕ) (name : List ℕ) (ts us : List Token) (s : Line) (codes : List Line) (rest : List Token) → Told n locals
+    → LineRead locals depth name ts us s → depth_behind s.step depth ≡ Some d → is_return s.step ≡ false
     → behind_one s (chain (word_in us) (λ w. codes_from n locals d w.0 w.1)) ≡ Some (codes, rest) → CodesRead (suc n) locals depth name ts codes rest
 behind-read n locals depth d name ts us s codes rest told r e on back =
     let inner : List ℕ × List Token → Found = λ w. codes_from n locals d w.0 w.1 in
-    let h : (x : List Step × List Token) × (chain (word_in us) inner ≡ Some x) × (◌≡◌ {A = List Step × List Token} (s ∷ x.0, x.1) (codes, rest)) =
+    let h : (x : List Line × List Token) × (chain (word_in us) inner ≡ Some x) × (◌≡◌ {A = List Line × List Token} (s ∷ x.0, x.1) (codes, rest)) =
     behind-some s (chain (word_in us) inner) (codes, rest) back in
     let k : (w : List ℕ × List Token) × (word_in us ≡ Some w) × (inner w ≡ Some h.0) = chain-some (word_in us) inner h.0 h.1 in
     let m : CodesRead n locals d k.0.0 k.0.1 h.0.0 h.0.1 = told d k.0.0 k.0.1 h.0.0 h.0.1 k.2 in
     let made : CodesRead (suc n) locals depth name ts (s ∷ h.0.0) h.0.1 =
     next-read n locals depth d name k.0.0 ts us k.0.1 h.0.1 s h.0.0 r e on (word_in-some us k.0.1 k.0.0 k.1) m in
-    subst (λ (p : List Step × List Token). CodesRead (suc n) locals depth name ts p.0 p.1) h.2 made
+    subst (λ (p : List Line × List Token). CodesRead (suc n) locals depth name ts p.0 p.1) h.2 made
 
-one-read : (n : ℕ) (locals : List (List ℕ)) (depth d : ℕ) (name : List ℕ) (ts us : List Token) (s : Step) (codes : List Step) (rest : List Token) → Told n locals
-    → step_in locals name ts ≡ Some (s, us) → depth_behind s depth ≡ Some d
-    → cond (is_return s) (Some (s ∷ [], us)) (behind_one s (chain (word_in us) (λ w. codes_from n locals d w.0 w.1))) ≡ Some (codes, rest)
+one-read : (n : ℕ) (locals : List (List ℕ)) (depth d : ℕ) (name : List ℕ) (ts us : List Token) (s : Line) (codes : List Line) (rest : List Token) → Told n locals
+    → line_in locals depth name ts ≡ Some (s, us) → depth_behind s.step depth ≡ Some d
+    → cond (is_return s.step) (Some (s ∷ [], us)) (behind_one s (chain (word_in us) (λ w. codes_from n locals d w.0 w.1))) ≡ Some (codes, rest)
     → CodesRead (suc n) locals depth name ts codes rest
 one-read n locals depth d name ts us s codes rest told read e back =
-    let r : StepRead locals name ts us s = step-read locals name ts us s read in
+    let r : LineRead locals depth name ts us s = line-read locals depth name ts us s read in
     let last : Found = Some (s ∷ [], us) in
     let more : Found = behind_one s (chain (word_in us) (λ w. codes_from n locals d w.0 w.1)) in
-    elim (cond-either (is_return s) last more (codes, rest) back) [
-      | inl h ↦ subst (λ (p : List Step × List Token). CodesRead (suc n) locals depth name ts p.0 p.1) (some-is (s ∷ [], us) (codes, rest) h.1)
+    elim (cond-either (is_return s.step) last more (codes, rest) back) [
+      | inl h ↦ subst (λ (p : List Line × List Token). CodesRead (suc n) locals depth name ts p.0 p.1) (some-is (s ∷ [], us) (codes, rest) h.1)
           (last-read n locals depth d name ts us s r e h.0)
       | inr h ↦ behind-read n locals depth d name ts us s codes rest told r e h.0 h.1
     ]
@@ -205,18 +207,18 @@ pub codes-read : (n : ℕ) (locals : List (List ℕ)) → Told n locals
 unfolding codes_from
 codes-read zero locals depth name ts codes rest e = absurd (cc)
 codes-read (suc n) locals depth name ts codes rest e =
-    let second : Step × List Token → ℕ → Found = λ s d.
-    cond (is_return s.0) (Some (s.0 ∷ [], s.1)) (behind_one s.0 (chain (word_in s.1) (λ w. codes_from n locals d w.0 w.1))) in
-    let first : Step × List Token → Found = λ s. chain (depth_behind s.0 depth) (second s) in
-    let h : (s : Step × List Token) × (step_in locals name ts ≡ Some s) × (first s ≡ Some (codes, rest)) = chain-some (step_in locals name ts) first (codes, rest) e in
-    let k : (d : ℕ) × (depth_behind h.0.0 depth ≡ Some d) × (second h.0 d ≡ Some (codes, rest)) = chain-some (depth_behind h.0.0 depth) (second h.0) (codes, rest) h.2 in
+    let second : Line × List Token → ℕ → Found = λ s d.
+    cond (is_return s.0.step) (Some (s.0 ∷ [], s.1)) (behind_one s.0 (chain (word_in s.1) (λ w. codes_from n locals d w.0 w.1))) in
+    let first : Line × List Token → Found = λ s. chain (depth_behind s.0.step depth) (second s) in
+    let h : (s : Line × List Token) × (line_in locals depth name ts ≡ Some s) × (first s ≡ Some (codes, rest)) = chain-some (line_in locals depth name ts) first (codes, rest) e in
+    let k : (d : ℕ) × (depth_behind h.0.0.step depth ≡ Some d) × (second h.0 d ≡ Some (codes, rest)) = chain-some (depth_behind h.0.0.step depth) (second h.0) (codes, rest) h.2 in
     one-read n locals depth k.0 name ts h.0.1 h.0.0 codes rest (codes-read n locals) h.1 k.1 k.2
 
 -- codes of the grammar are read, and linked so
 pub record CodesGiven (n : ℕ) (locals : List (List ℕ)) (depth : ℕ) (ts rest : List Token) (qs : List Position) : Type 0 where
   pub name : List ℕ
   pub operands : List Token
-  pub codes : List Step
+  pub codes : List Line
   pub split : ts ++ rest ≡ Word name ∷ operands
   pub reads : codes_from n locals depth name operands ≡ Some (codes, rest)
   pub is : qs ≡ map position_of codes
@@ -226,46 +228,59 @@ no_items locals [] h = refl
 no_items locals (items.Position p ∷ is) h = absurd h
 no_items locals (_ ∷ is) h = absurd h
 
--- the code and how deep the stack is behind it, in the words of the program
-walks-code : (q : Position) (qs : List Position) (s : Step) (depth : ℕ) → q ≡ position_of s → walks depth (q ∷ qs) ≡ true
-    → (depth_behind s depth ≡ Some (deep s depth)) × (walks (deep s depth) qs ≡ true)
+-- its assertions, the code and how deep the stack is behind it, in the words of the program
+walks-here : (q : Position) (qs : List Position) (depth : ℕ) → walks_asserted depth (q ∷ qs) ≡ true → reaches q.asserts depth ≡ true
+walks-here q qs depth w =
+    let now : Bool = nat_le (length (pops q.code)) depth in
+    let more : Bool = walks_asserted (length (pushes q.code) + (depth - length (pops q.code))) qs in
+    both-left (reaches q.asserts depth) now (both-left (reaches q.asserts depth && now) more w)
+
+walks-code : (q : Position) (qs : List Position) (s : Line) (depth : ℕ) → q ≡ position_of s → walks_asserted depth (q ∷ qs) ≡ true
+    → (depth_behind s.step depth ≡ Some (deep s.step depth)) × (walks_asserted (deep s.step depth) qs ≡ true)
 walks-code q qs s depth e w =
-    let v : walks depth (position_of s ∷ qs) ≡ true = subst (λ (p : Position). walks depth (p ∷ qs) ≡ true) e w in
-    let more : Bool = walks (deep s depth) qs in
-    (walks-depth s depth (both-left (reaches s depth) more v), both-right (reaches s depth) more v)
+    let v : walks_asserted depth (position_of s ∷ qs) ≡ true = subst (λ (p : Position). walks_asserted depth (p ∷ qs) ≡ true) e w in
+    let more : Bool = walks_asserted (deep s.step depth) qs in
+    let here : (reaches s.asserts depth && finds s.step depth) ≡ true = both-left (reaches s.asserts depth && finds s.step depth) more v in
+    (walks-depth s.step depth (both-right (reaches s.asserts depth) (finds s.step depth) here), both-right (reaches s.asserts depth && finds s.step depth) more v)
 
 last-given : (n : ℕ) (locals : List (List ℕ)) (depth : ℕ) (a b ts rest : List Token) (p : PositionParts) (is : List ItemParts) (q : Position) → APosition a p → Items b is
-    → ts ≡ a ++ b → LinksPosition locals p q → LinksItems locals is [] → IsReturn q.code → walks depth (q ∷ []) ≡ true → CodesGiven (suc n) locals depth ts rest (q ∷ [])
-last-given n locals depth a b ts rest p is q spells others split links more back walked =
+    → ts ≡ a ++ b → LinksPosition locals p q → LinksItems locals is [] → IsReturn q.code → walks_asserted depth (q ∷ []) ≡ true → length ts < max_claims
+    → CodesGiven (suc n) locals depth ts rest (q ∷ [])
+last-given n locals depth a b ts rest p is q spells others split links more back walked short =
     let nothing : b ≡ [] = subst (λ (l : List ItemParts). Items b l) (no_items locals is more) others in
     let alone : ts ≡ a = split ∙ ap (λ (l : List Token). a ++ l) nothing ∙ append-nil a in
-    let g : StepGiven locals a rest q = step-given locals a rest p q spells links in
-    let w : (depth_behind g.step depth ≡ Some (deep g.step depth)) × (walks (deep g.step depth) [] ≡ true) = walks-code q [] g.step depth g.is walked in
-    let return : is_return g.step ≡ true = returns-from g.step (subst (λ (x : Position). IsReturn x.code) g.is back) in
+    let g : LineGiven locals depth a rest q = line-given locals depth a rest p q spells links (walks-here q [] depth walked) (subst (λ (l : List Token). length l < max_claims) alone short) in
+    let w : (depth_behind g.line.step depth ≡ Some (deep g.line.step depth)) × (walks_asserted (deep g.line.step depth) [] ≡ true) = walks-code q [] g.line depth g.is walked in
+    let return : is_return g.line.step ≡ true = returns-from g.line.step (subst (λ (x : Position). IsReturn x.code) g.is back) in
     record {
       name = g.name;
       operands = g.operands;
-      codes = g.step ∷ [];
+      codes = g.line ∷ [];
       split = ap (λ (l : List Token). l ++ rest) alone ∙ g.split;
-      reads = codes-last n locals depth (deep g.step depth) g.name g.operands rest g.step g.reads w.0 return;
+      reads = codes-last n locals depth (deep g.line.step depth) g.name g.operands rest g.line g.reads w.0 return;
       is = ap (λ (x : Position). x ∷ []) g.is;
     }
 
+front-short : (a b ts : List Token) → ts ≡ a ++ b → length ts < max_claims → (length a < max_claims) × (length b < max_claims)
+front-short a b ts e short =
+    let c : length ts ≡ length a + length b = ap (λ (l : List Token). length l) e ∙ length-append a b in
+    (omega (arith, c, short), omega (arith, c, short))
+
 next-given : (n : ℕ) (locals : List (List ℕ)) (depth : ℕ) (a b ts rest : List Token) (p : PositionParts) (q : Position) (qs : List Position) → APosition a p → ts ≡ a ++ b
-    → LinksPosition locals p q → (IsReturn q.code → ⊥) → walks depth (q ∷ qs) ≡ true → ((d : ℕ) → walks d qs ≡ true → CodesGiven n locals d b rest qs)
-    → CodesGiven (suc n) locals depth ts rest (q ∷ qs)
-next-given n locals depth a b ts rest p q qs spells split links on walked given =
-    let g : StepGiven locals a (b ++ rest) q = step-given locals a (b ++ rest) p q spells links in
-    let w : (depth_behind g.step depth ≡ Some (deep g.step depth)) × (walks (deep g.step depth) qs ≡ true) = walks-code q qs g.step depth g.is walked in
-    let m : CodesGiven n locals (deep g.step depth) b rest qs = given (deep g.step depth) w.1 in
-    let stay : is_return g.step ≡ false = stays-from g.step (λ h. on (subst (λ (x : Position). IsReturn x.code) (sym g.is) h)) in
+    → LinksPosition locals p q → (IsReturn q.code → ⊥) → walks_asserted depth (q ∷ qs) ≡ true → length a < max_claims
+    → ((d : ℕ) → walks_asserted d qs ≡ true → CodesGiven n locals d b rest qs) → CodesGiven (suc n) locals depth ts rest (q ∷ qs)
+next-given n locals depth a b ts rest p q qs spells split links on walked short given =
+    let g : LineGiven locals depth a (b ++ rest) q = line-given locals depth a (b ++ rest) p q spells links (walks-here q qs depth walked) short in
+    let w : (depth_behind g.line.step depth ≡ Some (deep g.line.step depth)) × (walks_asserted (deep g.line.step depth) qs ≡ true) = walks-code q qs g.line depth g.is walked in
+    let m : CodesGiven n locals (deep g.line.step depth) b rest qs = given (deep g.line.step depth) w.1 in
+    let stay : is_return g.line.step ≡ false = stays-from g.line.step (λ h. on (subst (λ (x : Position). IsReturn x.code) (sym g.is) h)) in
     let next : word_in (b ++ rest) ≡ Some (m.name, m.operands) = ap word_in m.split in
     record {
       name = g.name;
       operands = g.operands;
-      codes = g.step ∷ m.codes;
+      codes = g.line ∷ m.codes;
       split = ap (λ (l : List Token). l ++ rest) split ∙ append_assoc a b rest ∙ g.split;
-      reads = codes-more n locals depth (deep g.step depth) g.name m.name g.operands (b ++ rest) m.operands g.step g.reads w.0 stay next ∙ ap (behind_one g.step) m.reads;
+      reads = codes-more n locals depth (deep g.line.step depth) g.name m.name g.operands (b ++ rest) m.operands g.line g.reads w.0 stay next ∙ ap (behind_one g.line) m.reads;
       is = λ i. g.is i ∷ m.is i;
     }
 
@@ -276,13 +291,13 @@ too_few : (q : Position) (qs : List Position) → length (q ∷ qs) ≤ 0 → �
 too_few q qs few = let l : suc (length qs) ≤ 0 = few in omega arith
 
 pub codes-given : (n : ℕ) (locals : List (List ℕ)) (depth : ℕ) (ts rest : List Token) (is : List ItemParts) (qs : List Position) → Items ts is → LinksItems locals is qs
-    → FitPositions (length locals) qs → walks depth qs ≡ true → length qs ≤ n → CodesGiven n locals depth ts rest qs
-codes-given n locals depth ts rest is [] spells links fits walked few = absurd fits
-codes-given zero locals depth ts rest is (q ∷ qs) spells links fits walked few = absurd (too_few q qs few)
-codes-given (suc n) locals depth ts rest [] (q ∷ qs) spells links fits walked few = absurd links
-codes-given (suc n) locals depth ts rest (items.Position p ∷ is) (q ∷ []) spells links fits walked few =
-    last-given n locals depth spells.0 spells.1 ts rest p is q spells.2 spells.3 spells.4 links.0 links.1 fits.1 walked
-codes-given (suc n) locals depth ts rest (items.Position p ∷ is) (q ∷ r ∷ rs) spells links fits walked few =
-    next-given n locals depth spells.0 spells.1 ts rest p q (r ∷ rs) spells.2 spells.4 links.0 fits.1 walked
-    (λ d w. codes-given n locals d spells.1 rest is (r ∷ rs) spells.3 links.1 fits.2 w (fewer n q (r ∷ rs) few))
-codes-given (suc n) locals depth ts rest (_ ∷ is) (q ∷ qs) spells links fits walked few = absurd spells.2
+    → FitClaimed (length locals) qs → walks_asserted depth qs ≡ true → length qs ≤ n → length ts < max_claims → CodesGiven n locals depth ts rest qs
+codes-given n locals depth ts rest is [] spells links fits walked few short = absurd fits
+codes-given zero locals depth ts rest is (q ∷ qs) spells links fits walked few short = absurd (too_few q qs few)
+codes-given (suc n) locals depth ts rest [] (q ∷ qs) spells links fits walked few short = absurd links
+codes-given (suc n) locals depth ts rest (items.Position p ∷ is) (q ∷ []) spells links fits walked few short =
+    last-given n locals depth spells.0 spells.1 ts rest p is q spells.2 spells.3 spells.4 links.0 links.1 fits.1 walked short
+codes-given (suc n) locals depth ts rest (items.Position p ∷ is) (q ∷ r ∷ rs) spells links fits walked few short =
+    next-given n locals depth spells.0 spells.1 ts rest p q (r ∷ rs) spells.2 spells.4 links.0 fits.1 walked (front-short spells.0 spells.1 ts spells.4 short).0
+    (λ d w. codes-given n locals d spells.1 rest is (r ∷ rs) spells.3 links.1 fits.2 w (fewer n q (r ∷ rs) few) (front-short spells.0 spells.1 ts spells.4 short).1)
+codes-given (suc n) locals depth ts rest (_ ∷ is) (q ∷ qs) spells links fits walked few short = absurd spells.2

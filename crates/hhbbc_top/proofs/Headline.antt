@@ -1,33 +1,48 @@
 -- What the laws say of a text that was read, and of one that wasn't.
-use Rattle.std.proofs.Common.{◌≡◌, ◌≢◌, ◌≤◌, ◌<◌, arith, ◌⊎◌, inl, inr, ℕ, refl, sym, ◌∙◌, ap, subst, List, [], ◌∷◌, ◌++◌, append-nil, Option, Some, None, Result, Ok, Err, length}
+use Rattle.std.proofs.Common.{◌≡◌, ◌≢◌, ◌≤◌, ◌<◌, arith, ◌⊎◌, inl, inr, ℕ, refl, sym, ◌∙◌, ap, subst, List, [], ◌∷◌, ◌++◌, append-nil, map, codes, Option, Some, None, Result, Ok, Err, length}
 use Rattle.std.specs.Prelude.{MatchResult, IfSome}
 use Rattle.std.specs.Io.KnownBytes.{Consumes, IsAtEnd}
 use Rattle.hh_io.specs.Sources.{IsWithin}
 use Rattle.std.proofs.lemmas.Option.{none-some, same_Some}
 use Rattle.hhbc_repo.specs.Linked.{Linked}
-use Rattle.func_analyze.specs.Laws.{ChainAnnotates, AnnotatedIsFaithful, AnnotatedIsUnique}
+use Rattle.func_analyze.specs.Laws.{BareChainAnnotates, SecondIsFaithful, SecondIsUnique}
 use Rattle.func_analyze.specs.Chain.{annotated_by}
 use Rattle.hhbbc_top.specs.declared.form.Main.{Main}
 use Rattle.hhbbc_top.specs.declared.status.Status.{Status}
 use Rattle.hhbbc_top.specs.declared.status.Status.TheVariants.{Done, Usage, TooLong, NoMemory, NotYet, ReadFault, WriteFault}
 use Rattle.hhbbc_top.specs.Answer.{analyze, status_of, Accepts, IsAnswer, IsAnnotatedText, IsOtherText}
-use Rattle.hhbbc_top.specs.FirstText.{limit, IsFirstText, ReadingIsSound, ReadingIsComplete, FirstTextHasWords}
-use Rattle.hhbbc_top.specs.Forms.{repo_of, annotated_text}
+use Rattle.hhbbc_top.specs.ReadText.{limit, IsReadText, ReadingIsSound, ReadingIsComplete, ReadTextHasWords}
+use Rattle.hhbbc_top.specs.Forms.{position_of, bare_of, repo_of, bare_repo_of, annotated_text}
+use Rattle.hhbbc_top.specs.declared.form.Line.{Line}
+use Rattle.hhbc_repo.specs.declared.body.Position.{Position}
+use Rattle.hhbc_repo.specs.Bare.{bare, bare_position}
+use Rattle.func_analyze.specs.Annotated.{IsAnnotated}
 use Rattle.hhbbc_top.specs.Reading.{main_of}
 
-pub annotated-text : ReadingIsSound → ReadingIsComplete → ChainAnnotates → AnnotatedIsFaithful → FirstTextHasWords → AnnotatedIsUnique → (bytes : List ℕ) (m : Main) (out : List ℕ) → length bytes ≤ limit → main_of bytes ≡ Some m → out ≡ annotated_text m
+-- codes without their assertions
+bare-lines : (lines : List Line) → map bare_position (map position_of lines) ≡ map bare_of lines
+bare-lines [] = refl
+bare-lines (l ∷ ls) = ap (λ (ps : List Position). bare_of l ∷ ps) (bare-lines ls)
+
+bare-is : (m : Main) → bare (repo_of m) ≡ bare_repo_of m
+bare-is m = λ i. record {
+  functions = record { name = codes "main"; params = 0; locals = m.locals; iters = 0; stated = None; positions = bare-lines m.codes i; regions = [] } ∷ [];
+  classes = [];
+}
+
+pub annotated-text : ReadingIsSound → ReadingIsComplete → BareChainAnnotates → SecondIsFaithful → ReadTextHasWords → SecondIsUnique → (bytes : List ℕ) (m : Main) (out : List ℕ) → length bytes ≤ limit → main_of bytes ≡ Some m → out ≡ annotated_text m
     → IsAnnotatedText bytes out
 annotated-text sound complete annotates faithful words unique bytes m out short e written =
-    let first = sound bytes m short e in
-    let is = annotates (repo_of m) first.form 9 in
+    let read = sound bytes m short e in
+    let is = subst (λ (r : Linked). IsAnnotated 10 (repo_of m) (annotated_by r)) (bare-is m) (annotates (repo_of m) read.form 9) in
     record {
       repo = repo_of m;
-      first = first;
+      read = read;
       only = λ other w. let h : (k : Main) × (main_of bytes ≡ Some k) × (other ≡ repo_of k) = complete bytes other w in h.2 ∙ ap repo_of (same_Some h.0 m (sym h.1 ∙ e));
-      annotated = annotated_by (repo_of m);
+      annotated = annotated_by (bare_repo_of m);
       is = is;
-      unique = λ other. unique (repo_of m) other first.form (words bytes (repo_of m) first) 9;
-      faithful = faithful (repo_of m) (annotated_by (repo_of m)) first.form first.types 9 is;
+      unique = λ other w. subst (λ (r : Linked). other ≡ annotated_by r) (bare-is m) (unique (repo_of m) other read.form (words bytes (repo_of m) read) 9 w);
+      faithful = faithful (repo_of m) (annotated_by (bare_repo_of m)) read.form read.types 9 is;
       written = written;
     }
 
@@ -35,7 +50,7 @@ pub other-text : ReadingIsComplete → (bytes : List ℕ) → main_of bytes ≡ 
 other-text complete bytes e r w = let h : (m : Main) × (main_of bytes ≡ Some m) × (r ≡ repo_of m) = complete bytes r w in none-some h.0 (sym e ∙ h.1)
 
 -- what is written for a text that was read or not
-pub answer-of : ReadingIsSound → ReadingIsComplete → ChainAnnotates → AnnotatedIsFaithful → FirstTextHasWords → AnnotatedIsUnique → (bytes : List ℕ) (m : Main) (r : Result (List ℕ) Status) → length bytes ≤ limit → main_of bytes ≡ Some m
+pub answer-of : ReadingIsSound → ReadingIsComplete → BareChainAnnotates → SecondIsFaithful → ReadTextHasWords → SecondIsUnique → (bytes : List ℕ) (m : Main) (r : Result (List ℕ) Status) → length bytes ≤ limit → main_of bytes ≡ Some m
     → MatchResult r (λ out. out ≡ annotated_text m) (λ s. s ≡ NoMemory)
     → MatchResult r (IsAnnotatedText bytes) (λ s. ((s ≡ NotYet) × IsOtherText bytes) ⊎ (s ≡ NoMemory))
 answer-of sound complete annotates faithful words unique bytes m (Ok out) short e written = annotated-text sound complete annotates faithful words unique bytes m out short e written

@@ -1,6 +1,10 @@
 pub mod Fronts
 pub mod Operands
 pub mod LocalNames
+pub mod ClaimsRead
+pub mod Assertions
+pub mod Lines
+pub mod Counting
 pub mod CodeLists
 pub mod ReadingSound
 pub mod ReadingComplete

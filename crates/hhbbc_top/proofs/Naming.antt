@@ -1,5 +1,5 @@
 -- Declared locals read one by one.
-use Rattle.std.proofs.Common.{◌≡◌, ℕ, ◌==◌, nat_le, refl, sym, ◌∙◌, ap, Bool, true, false, List, [], ◌∷◌, ◌++◌, length, Option, Some, None, is_some, ◌≤◌, ◌<◌, arith}
+use Rattle.std.proofs.Common.{◌≡◌, ℕ, nat_le, refl, ap, false, List, [], ◌∷◌, ◌++◌, length, Some, is_some}
 use Rattle.hhas_lex.specs.Tokens.{Token, Directive, Word, Local, Integer, Str, Mark, LessEqual, End, Bad}
 use Rattle.hhbc_repo.specs.Linking.{place_of}
 use Rattle.hhbbc_top.specs.Pieces.{local_in}

@@ -1,5 +1,5 @@
 -- One code as tokens: what is read of it, and what the grammar and linking say of it.
-use Rattle.std.proofs.Common.{◌≡◌, ◌<◌, inl, inr, ℕ, ℤ, nat_eq, nat_lt, refl, sym, ◌∙◌, ap, subst, true, List, [], ◌∷◌, ◌++◌, append-nil, length, Option, Some}
+use Rattle.std.proofs.Common.{◌≡◌, ◌<◌, inl, inr, ℕ, ℤ, nat_eq, nat_lt, refl, sym, ◌∙◌, ap, subst, true, false, List, [], ◌∷◌, ◌++◌, append-nil, length, Option, Some}
 use Rattle.std.specs.Cmp.Lexicographic.{pointwise}
 use Rattle.std.specs.List.{position_or_len}
 use Rattle.std.proofs.lemmas.Option.{cond_some}
@@ -10,24 +10,22 @@ use Rattle.hhbc_ops.specs.declared.op.Op.TheVariants as ops
 use Rattle.hhbc_ops.specs.declared.words.ImmKind.{ImmKind}
 use Rattle.hhbc_ops.specs.declared.words.ImmKind.TheVariants as kinds
 use Rattle.hhbc_ops.specs.Ops.{op_name, kinds_of}
-use Rattle.hhbc_repo.specs.declared.parts.PositionParts.{PositionParts}
 use Rattle.hhbc_repo.specs.declared.parts.CodeParts.{CodeParts}
 use Rattle.hhbc_repo.specs.declared.parts.CodeParts.TheVariants as forms
 use Rattle.hhbc_repo.specs.declared.parts.ImmParts.{ImmParts}
 use Rattle.hhbc_repo.specs.declared.parts.ImmParts.TheVariants as parts
-use Rattle.hhbc_repo.specs.declared.body.Position.{Position}
 use Rattle.hhbc_repo.specs.declared.code.Code.{Code}
 use Rattle.hhbc_repo.specs.declared.code.Code.TheVariants as codes
 use Rattle.hhbc_repo.specs.declared.code.Imm.{Imm}
 use Rattle.hhbc_repo.specs.declared.code.Imm.TheVariants as imms
-use Rattle.hhbc_repo.specs.Form.{FitsOperands, FitsCode, FitsPosition}
-use Rattle.hhbc_repo.specs.Grammar.{Operand, Operands, APosition, ACode}
-use Rattle.hhbc_repo.specs.Linking.{place_of, LinksOperand, LinksOperands, LinksCode, LinksPosition}
+use Rattle.hhbc_repo.specs.Form.{FitsOperands, FitsCode}
+use Rattle.hhbc_repo.specs.Grammar.{Operand, Operands, ACode}
+use Rattle.hhbc_repo.specs.Linking.{place_of, LinksOperand, LinksOperands, LinksCode}
 use Rattle.hhbbc_top.specs.declared.form.Step.{Step}
 use Rattle.hhbbc_top.specs.declared.form.Step.TheVariants as steps
 use Rattle.hhbbc_top.specs.Pieces.{local_in, integer_in}
-use Rattle.hhbbc_top.specs.Reading.{chain, named_among, all_ops, op_of, number_in, with_int, with_number, step_of, step_in}
-use Rattle.hhbbc_top.specs.Forms.{plain, code_of, position_of}
+use Rattle.hhbbc_top.specs.Reading.{chain, named_among, all_ops, op_of, is_claim, number_in, with_int, with_number, step_of, step_in}
+use Rattle.hhbbc_top.specs.Forms.{plain, code_of}
 use Rattle.hhbbc_top.proofs.Fronts.{chain-some, cond-either, some-is, same-word, integer_in-some}
 use Rattle.hhbbc_top.proofs.Names.{op_of-name}
 use Rattle.hhbbc_top.proofs.Naming.{local_in-some}
@@ -44,7 +42,7 @@ pub record OperandsRead (locals : List (List ℕ)) (op : Op) (ts us : List Token
   pub is : code_of s ≡ plain op links
 
 -- the number of a local is below their count
-place-below : (x : List ℕ) (locals : List (List ℕ)) (l : ℕ) → place_of x locals ≡ Some l → l < length locals
+pub place-below : (x : List ℕ) (locals : List (List ℕ)) (l : ℕ) → place_of x locals ≡ Some l → l < length locals
 place-below x locals l e =
     let n : ℕ = position_or_len (λ other. pointwise nat_eq other x) locals in
     let h : (nat_lt n (length locals) ≡ true) × (n ≡ l) = cond_some (nat_lt n (length locals)) n l e in
@@ -88,7 +86,7 @@ pub record NumberRead (locals : List (List ℕ)) (ts mid : List Token) (l : ℕ)
   pub place : place_of name locals ≡ Some l
   pub split : ts ≡ Local name ∷ mid
 
-number-read : (locals : List (List ℕ)) (ts mid : List Token) (l : ℕ) → number_in locals ts ≡ Some (l, mid) → NumberRead locals ts mid l
+pub number-read : (locals : List (List ℕ)) (ts mid : List Token) (l : ℕ) → number_in locals ts ≡ Some (l, mid) → NumberRead locals ts mid l
 number-read locals ts mid l e =
     let inner : List ℕ × List Token → Option (ℕ × List Token) = λ x. chain (place_of x.0 locals) (λ l. Some (l, x.1)) in
     let h : (x : List ℕ × List Token) × (local_in ts ≡ Some x) × (inner x ≡ Some (l, mid)) = chain-some (local_in ts) inner (l, mid) e in
@@ -145,10 +143,10 @@ op-is name op e = named-is all_ops name op e
 -- a code as it was read
 pub record StepRead (locals : List (List ℕ)) (name : List ℕ) (ts us : List Token) (s : Step) : Type 0 where
   pub spelled : List Token
-  pub part : PositionParts
-  pub spells : APosition spelled part
-  pub links : LinksPosition locals part (position_of s)
-  pub fits : FitsPosition (length locals) (position_of s)
+  pub part : CodeParts
+  pub spells : ACode spelled part
+  pub links : LinksCode locals part (code_of s)
+  pub fits : FitsCode (length locals) (code_of s)
   pub split : Word name ∷ ts ≡ spelled ++ us
 
 pub step-read : (locals : List (List ℕ)) (name : List ℕ) (ts us : List Token) (s : Step) → step_in locals name ts ≡ Some (s, us) → StepRead locals name ts us s
@@ -158,10 +156,10 @@ step-read locals name ts us s e =
     let named : op_name h.0 ≡ name = op-is name h.0 h.1 in
     record {
       spelled = Word (op_name h.0) ∷ o.operands;
-      part = record { asserts = []; code = forms.Plain (record { op = h.0; imms = o.parts }) };
-      spells = record { asserts = refl; code = (o.operands, o.spells, refl) };
-      links = record { asserts = refl; code = subst (λ (c : Code). LinksCode locals (forms.Plain (record { op = h.0; imms = o.parts })) c) (sym o.is) (refl, o.linked) };
-      fits = record { bare = refl; fits = subst (λ (c : Code). FitsCode (length locals) c) (sym o.is) o.fits };
+      part = forms.Plain (record { op = h.0; imms = o.parts });
+      spells = (o.operands, o.spells, refl);
+      links = subst (λ (c : Code). LinksCode locals (forms.Plain (record { op = h.0; imms = o.parts })) c) (sym o.is) (refl, o.linked);
+      fits = subst (λ (c : Code). FitsCode (length locals) c) (sym o.is) o.fits;
       split = ap (λ (w : List ℕ). Word w ∷ ts) (sym named) ∙ ap (λ (l : List Token). Word (op_name h.0) ∷ l) o.split;
     }
 
@@ -227,7 +225,7 @@ int-given locals ts us ms js spells links =
     let e : js ≡ imms.Int n.0 ∷ [] = l.1 ∙ ap (λ (j : Imm). j ∷ []) (int_link locals n.0 l.0 l.2) in
     record { step = steps.Int n.0; reads = ap (λ (a : List Token). step_of locals ops.Int (a ++ us)) n.2; is = ap (λ (l : List Imm). plain ops.Int l) e }
 
-number-given : (locals : List (List ℕ)) (x : List ℕ) (l : ℕ) (us : List Token) → place_of x locals ≡ Some l → number_in locals (Local x ∷ us) ≡ Some (l, us)
+pub number-given : (locals : List (List ℕ)) (x : List ℕ) (l : ℕ) (us : List Token) → place_of x locals ≡ Some l → number_in locals (Local x ∷ us) ≡ Some (l, us)
 number-given locals x l us e = ap (λ (o : Option ℕ). chain o (λ (n : ℕ). Some (n, us))) e
 
 local-given : (locals : List (List ℕ)) (op : Op) (make : ℕ → Step) (ts us : List Token) (ms : List ImmParts) (js : List Imm)
@@ -258,38 +256,38 @@ operands-given locals ops.SetL ts us ms js spells links = local-given locals ops
 operands-given locals ops.CGetL ts us ms js spells links = local-given locals ops.CGetL (λ l. steps.CGetL l) ts us ms js (λ vs. refl) (λ l. refl) spells links
 operands-given locals ops.RetC ts us ms js spells links = bare-given locals ops.RetC steps.RetC ts us ms js refl (λ vs. refl) refl spells links
 
+-- no instruction is called as an assertion is
+unclaimed : (op : Op) → is_claim (op_name op) ≡ false
+unclaimed ops.Null = refl
+unclaimed ops.True = refl
+unclaimed ops.False = refl
+unclaimed ops.Int = refl
+unclaimed ops.PopC = refl
+unclaimed ops.SetL = refl
+unclaimed ops.CGetL = refl
+unclaimed ops.RetC = refl
+
 -- a code of the grammar is read, and linked so
 pub record CodeGiven (locals : List (List ℕ)) (ts us : List Token) (c : Code) : Type 0 where
   pub name : List ℕ
+  pub unclaimed : is_claim name ≡ false
   pub operands : List Token
   pub step : Step
   pub split : ts ++ us ≡ Word name ∷ operands
   pub reads : step_in locals name operands ≡ Some (step, us)
   pub is : c ≡ code_of step
 
-code-given : (locals : List (List ℕ)) (ts us : List Token) (p : CodeParts) (c : Code) → ACode ts p → LinksCode locals p c → CodeGiven locals ts us c
+pub code-given : (locals : List (List ℕ)) (ts us : List Token) (p : CodeParts) (c : Code) → ACode ts p → LinksCode locals p c → CodeGiven locals ts us c
 code-given locals ts us (forms.Member m) c spells links = absurd spells
 code-given locals ts us (forms.Plain i) (codes.Member m) spells links = absurd links
 code-given locals ts us (forms.Plain i) (codes.Plain j) spells links =
     let o : OperandsGiven locals i.op spells.0 us j.imms = operands-given locals i.op spells.0 us i.imms j.imms spells.1 links.1 in
     record {
       name = op_name i.op;
+      unclaimed = unclaimed i.op;
       operands = spells.0 ++ us;
       step = o.step;
       split = ap (λ (a : List Token). a ++ us) spells.2;
       reads = ap (λ (q : Option Op). chain q (λ (op : Op). step_of locals op (spells.0 ++ us))) (op_of-name i.op) ∙ o.reads;
       is = (λ k. codes.Plain (record { op = sym links.0 k; imms = j.imms })) ∙ o.is;
     }
-
-pub record StepGiven (locals : List (List ℕ)) (ts us : List Token) (q : Position) : Type 0 where
-  pub name : List ℕ
-  pub operands : List Token
-  pub step : Step
-  pub split : ts ++ us ≡ Word name ∷ operands
-  pub reads : step_in locals name operands ≡ Some (step, us)
-  pub is : q ≡ position_of step
-
-pub step-given : (locals : List (List ℕ)) (ts us : List Token) (p : PositionParts) (q : Position) → APosition ts p → LinksPosition locals p q → StepGiven locals ts us q
-step-given locals ts us p q spells links =
-    let g : CodeGiven locals ts us q.code = code-given locals ts us p.code q.code spells.code links.code in
-    record { name = g.name; operands = g.operands; step = g.step; split = g.split; reads = g.reads; is = λ k. record { asserts = links.asserts k; code = g.is k } }

@@ -1,4 +1,4 @@
--- The ints of a text of the first form are of 64 bits: those among its tokens are, the grammar puts each operand there, and
+-- The ints of a text of the form that is read are of 64 bits: those among its tokens are, the grammar puts each operand there, and
 -- linking keeps it.
 use Rattle.std.proofs.Common.{◌≡◌, ◌^◌, ℕ, zero, suc, ℤ, pos, negsuc, refl, subst, true, List, [], ◌∷◌, ◌++◌, Some, None, drop, length, FitsSigned, w64}
 use Rattle.std.proofs.lemmas.Bool.{ltb-true}
@@ -27,7 +27,7 @@ use Rattle.hhbc_repo.specs.Codes.{int_of}
 use Rattle.hhbc_repo.specs.Grammar.{Operand, Operands, ACode, Items, AFunction, Functions}
 use Rattle.hhbc_repo.specs.Linking.{LinksOperands, LinksCode, LinksItems, LinksBody, LinksBodies}
 use Rattle.func_analyze.specs.Laws.{IsWord, AreWords}
-use Rattle.hhbbc_top.specs.FirstText.{FirstTextHasWords}
+use Rattle.hhbbc_top.specs.ReadText.{ReadTextHasWords}
 use Rattle.hhbbc_top.proofs.ReadingComplete.{one_body, one_function}
 
 -- ---- the tokens of a text
@@ -112,7 +112,7 @@ items_words locals ts [] (q ∷ qs) spells links small = absurd links
 items_words locals ts (items.Position p ∷ is) [] spells links small = tt
 items_words locals ts (items.Position p ∷ is) (q ∷ qs) spells links small =
     let both = parts_small spells.0 spells.1 (subst AreSmall spells.4 small) in (
-      code_word locals spells.0 p.code q.code spells.2.code links.0.code both.0,
+      code_word locals spells.2.behind p.code q.code spells.2.code links.0.code (parts_small spells.2.before spells.2.behind (subst AreSmall spells.2.tokens both.0)).1,
       items_words locals spells.1 is qs spells.3 links.1 both.1,
     )
 items_words locals ts (_ ∷ is) qs spells links small = absurd spells.2
@@ -120,12 +120,13 @@ items_words locals ts (_ ∷ is) qs spells links small = absurd spells.2
 function_words : (ts : List Token) (b : BodyParts) (c : Body) → AFunction ts b → LinksBody b c → AreSmall ts → AreWords c.positions
 function_words ts b c f links small =
     let behind = (subst AreSmall f.tokens small).1.1 in
-    let braced = (parts_small f.params (Mark 123 ∷ (f.declared ++ (f.inner ++ Mark 125 ∷ []))) behind).1.1 in
+    let stated = (parts_small f.params (f.returns ++ (Mark 123 ∷ (f.declared ++ (f.inner ++ Mark 125 ∷ [])))) behind).1 in
+    let braced = (parts_small f.returns (Mark 123 ∷ (f.declared ++ (f.inner ++ Mark 125 ∷ []))) stated).1.1 in
     let inner = (parts_small f.inner (Mark 125 ∷ []) (parts_small f.declared (f.inner ++ Mark 125 ∷ []) braced).1).0 in
     items_words c.locals f.inner b.items c.positions f.spell_items links.positions inner
 
-pub first_text_has_words : FirstTextHasWords
-first_text_has_words bytes r t =
+pub read_text_has_words : ReadTextHasWords
+read_text_has_words bytes r t =
     let bodies : LinksBodies t.parts (t.form.body ∷ []) = subst (λ (l : List Body). LinksBodies t.parts l) t.form.functions t.links.bodies in
     let b : (b : BodyParts) × (t.parts ≡ b ∷ []) × LinksBody b t.form.body = one_body t.parts t.form.body bodies in
     let f : AFunction t.spells.0 b.0 = one_function t.spells.0 b.0 (subst (λ (l : List BodyParts). Functions t.spells.0 l) b.1 t.spells.1) in

@@ -1,6 +1,6 @@
 -- Tokens of a text, from the front.
-use Rattle.std.proofs.Common.{◌≡◌, ℕ, refl, sym, ◌∙◌, ap, Bool, true, false, List, [], ◌∷◌, drop}
-use Rattle.hhas_lex.specs.Tokens.{Token, Directive, Word, Local, Integer, Str, Mark, LessEqual, End, Bad, Cursor, tokens, front, behind, left, first}
+use Rattle.std.proofs.Common.{◌≡◌, ℕ, refl, sym, ◌∙◌, ap, true, false, List, [], ◌∷◌}
+use Rattle.hhas_lex.specs.Tokens.{Token, Directive, Word, Local, Integer, Str, Mark, LessEqual, End, Bad, tokens, front, behind, first}
 use Rattle.hhbbc_top.specs.declared.reader.Piece.{Piece}
 use Rattle.hhbbc_top.specs.declared.reader.Piece.TheVariants as pieces
 use Rattle.hhbbc_top.specs.Pieces.{Says, Takes}

@@ -1,16 +1,16 @@
 -- What each status says, and when it comes.
-use Rattle.std.specs.Prelude.{◌≡◌, ◌≢◌, ◌⊎◌, ℕ, List, [], ◌∷◌, Option, Some, None, Result, Ok, Err, is_some, false, IfSome, codes}
+use Rattle.std.specs.Prelude.{◌≡◌, ◌≢◌, ◌⊎◌, ℕ, List, [], ◌∷◌, Option, Result, Ok, Err, IfSome, codes}
 use Rattle.std.specs.Io.KnownBytes.{IsAtEnd}
 use Rattle.hh_io.specs.Counts.{Rose}
 use Rattle.hh_io.specs.Sources.{IsLonger, IsWithin}
-use Rattle.hh_io.specs.Sinks.{Takes, TakesNothing, TakesPart}
+use Rattle.hh_io.specs.Sinks.{Takes, TakesPart}
 use Rattle.hhbc_repo.specs.Linked.{Linked}
 use Rattle.hhbc_repo.specs.Text.{text}
 use Rattle.hhbc_repo.specs.Truth.{IsFaithful}
 use Rattle.func_analyze.specs.Annotated.{IsAnnotated}
 use Rattle.hhbbc_top.specs.declared.status.Status.{Status}
 use Rattle.hhbbc_top.specs.declared.status.Status.TheVariants.{Done, Usage, TooLong, NoMemory, NotYet, ReadFault, WriteFault}
-use Rattle.hhbbc_top.specs.FirstText.{limit, IsFirstText}
+use Rattle.hhbbc_top.specs.ReadText.{limit, IsReadText}
 
 -- the number that the process ends with
 abbrev pub number_of : Status → ℕ
@@ -40,12 +40,12 @@ analyze = codes "analyze" ∷ []
 abbrev pub rounds : ℕ
 rounds = 10
 
--- the canonical text of the repository of a text of the first form, annotated; it runs as the text's own repository does, its
--- claims are true in every run, and no run of either is stuck
+-- the canonical text of the repository of a text of the form that is read, annotated; it runs as the text's own repository does,
+-- its claims are true in every run, and no run of either is stuck
 pub record IsAnnotatedText (bytes out : List ℕ) : Type 0 where
   pub repo : Linked
-  pub first : IsFirstText bytes repo
-  pub only : (other : Linked) → IsFirstText bytes other → other ≡ repo
+  pub read : IsReadText bytes repo
+  pub only : (other : Linked) → IsReadText bytes other → other ≡ repo
   pub annotated : Linked
   pub is : IsAnnotated rounds repo annotated
   -- the annotated repository is the one and only
@@ -53,9 +53,9 @@ pub record IsAnnotatedText (bytes out : List ℕ) : Type 0 where
   pub faithful : IsFaithful repo annotated
   pub written : out ≡ text annotated
 
--- it isn't of the first form
+-- it isn't of that form
 abbrev pub IsOtherText : List ℕ → Type 0
-IsOtherText bytes = (r : Linked) → IsFirstText bytes r → ⊥
+IsOtherText bytes = (r : Linked) → IsReadText bytes r → ⊥
 
 -- when a status comes, and what is to be written to standard output: from the words, what the source had left and has left
 -- now, and its count of faults before and now. Memory may be wanting wherever a text is read.
@@ -94,8 +94,8 @@ abbrev pub WritesAll : (Status → List ℕ → Type 0) → Status → Option (L
 WritesAll Answer s out out_now err err_now =
     (bytes : List ℕ) × Answer s bytes × Takes out out_now bytes × Takes err err_now (line_of s)
 
--- a text of the first form is accepted, memory and stream faults aside
+-- a text of the form that is read is accepted, memory and stream faults aside
 abbrev pub Accepts : List (List ℕ) → Option (List ℕ) → Status → Type 0
 Accepts words left s =
-    (bytes : List ℕ) (repo : Linked) → words ≡ analyze → left ≡ Some bytes → IsFirstText bytes repo
+    (bytes : List ℕ) (repo : Linked) → words ≡ analyze → left ≡ Some bytes → IsReadText bytes repo
     → (s ≡ Done) ⊎ ((s ≡ NoMemory) ⊎ ((s ≡ ReadFault) ⊎ (s ≡ WriteFault)))

@@ -1,4 +1,4 @@
--- The repository of a text of the first form, and the types along its codes as the program keeps them.
+-- The repository of a text that was read, and the types along its codes as the program keeps them.
 use Rattle.std.specs.Prelude.{ℕ, Bool, true, false, List, [], ◌∷◌, map, reverse, Option, Some, None, codes}
 use Rattle.hhbc_ops.specs.declared.op.Op.{Op}
 use Rattle.hhbc_ops.specs.declared.op.Op.TheVariants as ops
@@ -14,6 +14,7 @@ use Rattle.func_analyze.specs.Chain.{annotated_by}
 use Rattle.abstract_step.specs.State.{State}
 use Rattle.hhbbc_top.specs.declared.form.Step.{Step}
 use Rattle.hhbbc_top.specs.declared.form.Step.TheVariants as steps
+use Rattle.hhbbc_top.specs.declared.form.Line.{Line}
 use Rattle.hhbbc_top.specs.declared.form.Main.{Main}
 use Rattle.hhbbc_top.specs.declared.annotation.Types.{Types}
 
@@ -30,8 +31,9 @@ code_of (steps.SetL l) = plain ops.SetL (imms.Local l ∷ [])
 code_of (steps.CGetL l) = plain ops.CGetL (imms.Local l ∷ [])
 code_of steps.RetC = plain ops.RetC []
 
-abbrev pub position_of : Step → Position
-position_of s = record { asserts = []; code = code_of s }
+-- a code with its assertions
+abbrev pub position_of : Line → Position
+position_of l = record { asserts = l.asserts; code = code_of l.step }
 
 abbrev pub body_of : Main → Body
 body_of m = record {
@@ -39,7 +41,7 @@ body_of m = record {
   params = 0;
   locals = m.locals;
   iters = 0;
-  stated = None;
+  stated = m.stated;
   positions = map position_of m.codes;
   regions = [];
 }
@@ -47,6 +49,26 @@ body_of m = record {
 -- the repository of one function
 abbrev pub repo_of : Main → Linked
 repo_of m = record { functions = body_of m ∷ []; classes = [] }
+
+-- a code alone
+abbrev pub bare_of : Line → Position
+bare_of l = record { asserts = []; code = code_of l.step }
+
+-- the same repository without claims
+abbrev pub bare_repo_of : Main → Linked
+bare_repo_of m = record {
+  functions = record {
+    name = codes "main";
+    params = 0;
+    locals = m.locals;
+    iters = 0;
+    stated = None;
+    positions = map bare_of m.codes;
+    regions = [];
+  }
+      ∷ [];
+  classes = [];
+}
 
 -- the program keeps the top of the stack last
 abbrev pub state_of : Types → State
@@ -59,4 +81,4 @@ if_reached false s = None
 
 -- the canonical text of a function, annotated along its codes
 abbrev pub annotated_text : Main → List ℕ
-annotated_text m = text (annotated_by (repo_of m))
+annotated_text m = text (annotated_by (bare_repo_of m))

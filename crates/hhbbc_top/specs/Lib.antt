@@ -1,5 +1,5 @@
 pub mod Answer
-pub mod FirstText
+pub mod ReadText
 pub mod Forms
 pub mod Pieces
 pub mod Reading

@@ -1,4 +1,4 @@
-//! Types along the codes of a text of the first form, and the repository that states them.
+//! Types along the codes of a text, and the repository that states them.
 
 ghost use Rattle.std.specs.Prelude.{◌≡◌, ◌<◌, ◌^◌, ◌++◌, [], ◌∷◌, map, reverse, length, replicate, slice_get, slice_set, IfOk, OnOk, Some};
 ghost use Rattle.type_lattice.specs.Types as types;
@@ -7,9 +7,9 @@ ghost use Rattle.type_lattice.specs.Whole.{is_whole};
 ghost use Rattle.abstract_step.specs.State as states;
 ghost use Rattle.func_analyze.specs.Annotated as annotated;
 ghost use Rattle.func_analyze.specs.Chain as along;
-ghost use Rattle.hhbbc_top.specs.Forms.{code_of, position_of, plain, repo_of, body_of, state_of, if_reached};
+ghost use Rattle.hhbbc_top.specs.Forms.{code_of, bare_of, plain, bare_repo_of, state_of, if_reached};
 
-use crate::form::{Main, Step};
+use crate::form::{Line, Main, Step};
 use hack_values::{Cell, NoMemory, Seq, Text};
 use hhbc_ops::Op;
 use hhbc_repo::{Assert, Body, Code, Imm, Instr, Position, Repo};
@@ -306,28 +306,32 @@ fn returned(ts: &Types, reached: bool, step: Step) -> HType
 /// The positions with their assertions, from the types at the first, and the type that the last code returns.
 fn positions(
     alloc: Global,
-    codes: &[Step],
+    codes: &[Line],
     mut ts: Types,
 ) -> Result<(Seq<Position>, HType), NoMemory>
-    ensures { IfOk result (λ found. (found.0 ≡ annotated.with_claims (map position_of codes.now) (along.chain (map position_of codes.now) (Some (state_of ts))))
-        × (found.1 ≡ along.returned_at_end (map position_of codes.now) (Some (state_of ts)))) }
+    ensures { IfOk result (λ found. (found.0 ≡ annotated.with_claims (map bare_of codes.now) (along.chain (map bare_of codes.now) (Some (state_of ts))))
+        × (found.1 ≡ along.returned_at_end (map bare_of codes.now) (Some (state_of ts)))) }
 {
     let mut done = Seq::new(alloc);
     let mut reached = true;
     let mut last = HType::NEVER;
-    for step in codes {
-        done.push(position(alloc, &ts, reached, *step)?)?;
-        last = returned(&ts, reached, *step);
-        reached = advance(&mut ts, reached, *step)?;
+    for line in codes {
+        done.push(position(alloc, &ts, reached, line.step)?)?;
+        last = returned(&ts, reached, line.step);
+        reached = advance(&mut ts, reached, line.step)?;
     }
     Ok((done, last))
 }
 
-/// The repository of one function, with the types along it stated.
+/// The repository of one function, with the types along it stated in place of its own claims.
 pub fn annotated(alloc: Global, main: Main) -> Result<Repo, NoMemory>
-    ensures { IfOk result (λ repo. repo ≡ along.annotated_by (repo_of main)) }
+    ensures { IfOk result (λ repo. repo ≡ along.annotated_by (bare_repo_of main)) }
 {
-    let Main { locals, codes } = main;
+    let Main {
+        stated: _,
+        locals,
+        codes,
+    } = main;
     let types = entry(alloc, locals.as_slice().len())?;
     let (positions, returned) = positions(alloc, codes.as_slice(), types)?;
     let mut functions = Seq::new(alloc);

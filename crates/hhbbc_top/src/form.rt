@@ -1,17 +1,20 @@
-//! Reads a text of the first form: one function `main` without parameters, of constants, locals and one `RetC` at its end.
+//! Reads a text: one function `main` without parameters, of constants, locals and one `RetC` at its end, with claims of plain types.
 
 ghost use Rattle.std.specs.Prelude.{◌≡◌, ◌≤◌, ◌<◌, ◌^◌, [], ◌==◌, length, IfSome, IfOk};
 ghost use Rattle.hhbc_repo.specs.Linking as linking;
-ghost use Rattle.hhbbc_top.specs.FirstText.{FirstTextHasWords, ReadingIsSound, ReadingIsComplete};
+ghost use Rattle.hhbbc_top.specs.ReadText.{ReadTextHasWords, ReadingIsSound, ReadingIsComplete};
 ghost use Rattle.hhbbc_top.specs.Pieces.{Gives, Passes, Reads};
 ghost use Rattle.hhbbc_top.specs.Reading as reading;
 
+use crate::claims::{read_claims, stated};
 use crate::reader::{Piece, ReadFault, Reader};
 use hack_values::{Seq, Text};
 use hhbc_ops::{Op, op_named};
+use hhbc_repo::Assert;
 use std::alloc::Global;
+use type_lattice::HType;
 
-/// A code of the first form. Locals are numbers.
+/// A code. Locals are numbers.
 #[derive(Clone, Copy, Debug, PartialEq, Eq)]
 pub enum Step {
     Null,
@@ -24,11 +27,19 @@ pub enum Step {
     RetC,
 }
 
-/// The locals and the codes of the one function of a text of the first form.
+/// A code, and the assertions before it.
+#[derive(Drop)]
+pub struct Line {
+    pub asserts: Seq<Assert>,
+    pub step: Step,
+}
+
+/// What the one function of a text states of its result, its locals and its codes.
 #[derive(Drop)]
 pub struct Main {
+    pub stated: Option<HType>,
     pub locals: Seq<Text>,
-    pub codes: Seq<Step>,
+    pub codes: Seq<Line>,
 }
 
 const MAX_LOCALS: usize = 255;
@@ -65,7 +76,7 @@ fn names(alloc: Global, reader: &mut Reader) -> Result<Seq<Text>, ReadFault>
 }
 
 /// A declared local, by its number.
-fn number(reader: &mut Reader, locals: &[Text]) -> Result<u8, ReadFault>
+pub fn number(reader: &mut Reader, locals: &[Text]) -> Result<u8, ReadFault>
     requires { length locals.now ≤ 255 }
     ensures { Gives (reading.number_in locals.now reader.old) result reader.new }
 {
@@ -124,13 +135,34 @@ fn depth_behind(step: Step, depth: usize) -> Option<usize>
     }
 }
 
-/// Codes through `RetC`, none of which reaches below the stack. The first has this name.
-fn codes(
+/// A code with the assertions before it, none of which reaches below the stack. The first has this word.
+#[tactic(auto, unfolding(crate::specs::Reading::line_in))]
+fn read_line<'a>(
     alloc: Global,
-    reader: &mut Reader,
+    reader: &mut Reader<'a>,
     locals: &[Text],
-    first: &[u8],
-) -> Result<Seq<Step>, ReadFault>
+    depth: usize,
+    first: &'a [u8],
+) -> Result<Line, ReadFault>
+    requires { length locals.now ≤ 255 }
+    ensures { Gives (reading.line_in locals.now depth first.now reader.old) result reader.new }
+{
+    match read_claims(alloc, reader, locals, depth, first) {
+        Ok((asserts, name)) => {
+            let step = read_step(reader, locals, name)?;
+            Ok(Line { asserts, step })
+        }
+        Err(fault) => Err(fault),
+    }
+}
+
+/// Codes through `RetC`, none of which reaches below the stack. The first, or its first assertion, has this word.
+fn codes<'a>(
+    alloc: Global,
+    reader: &mut Reader<'a>,
+    locals: &[Text],
+    first: &'a [u8],
+) -> Result<Seq<Line>, ReadFault>
     requires { length locals.now ≤ 255 }
     ensures { Gives (reading.codes_from 200 locals.now 0 first.now reader.old) result reader.new }
 {
@@ -138,12 +170,13 @@ fn codes(
     let mut name = first;
     let mut depth = 0;
     for count in 0..MAX_CODES {
-        let step = read_step(reader, locals, name)?;
+        let line = read_line(alloc, reader, locals, depth, name)?;
+        let step = line.step;
         let Some(behind) = depth_behind(step, depth) else {
             return Err(ReadFault::OtherForm);
         };
         depth = behind;
-        codes.push(step)?;
+        codes.push(line)?;
         if is_return(step) {
             return Ok(codes);
         }
@@ -171,63 +204,68 @@ fn profile(reader: &mut Reader) -> Result<(), ReadFault>
     }
 }
 
-/// `() {`
-fn braces(reader: &mut Reader) -> Result<(), ReadFault>
-    ensures { Passes (reading.braced reader.old) result reader.new }
+/// `()`
+fn parens(reader: &mut Reader) -> Result<(), ReadFault>
+    ensures { Passes (reading.parens_in reader.old) result reader.new }
 {
     reader.mark(b'(')?;
-    reader.mark(b')')?;
-    reader.mark(b'{')
+    reader.mark(b')')
 }
 
-/// `.function main() {`
-fn heading(reader: &mut Reader) -> Result<(), ReadFault>
-    ensures { Passes (reading.heading_in reader.old) result reader.new }
+/// `.function main()`, what it states of its result, and `{`
+fn heading(reader: &mut Reader) -> Result<Option<HType>, ReadFault>
+    ensures { Gives (reading.heading_in reader.old) result reader.new }
 {
     reader.directive(b"function")?;
     let name = reader.word()?;
     if name == b"main".as_slice() {
-        braces(reader)
+        parens(reader)?;
+        stated(reader)
     } else {
         Err(ReadFault::OtherForm)
     }
 }
 
 /// Declared locals, and codes behind them.
-fn declared(alloc: Global, reader: &mut Reader) -> Result<Main, ReadFault>
-    ensures { Gives (reading.declared_in reader.old) result reader.new }
+fn declared(alloc: Global, reader: &mut Reader, stated: Option<HType>) -> Result<Main, ReadFault>
+    ensures { Gives (reading.declared_in stated reader.old) result reader.new }
 {
     let locals = names(alloc, reader)?;
     let first = reader.word()?;
-    coded(alloc, reader, locals, first)
+    coded(alloc, reader, stated, locals, first)
 }
 
-fn coded(
+fn coded<'a>(
     alloc: Global,
-    reader: &mut Reader,
+    reader: &mut Reader<'a>,
+    stated: Option<HType>,
     locals: Seq<Text>,
-    first: &[u8],
+    first: &'a [u8],
 ) -> Result<Main, ReadFault>
     requires { length locals ≤ 255 }
-    ensures { Gives (reading.coded locals first.now reader.old) result reader.new }
+    ensures { Gives (reading.coded stated locals first.now reader.old) result reader.new }
 {
     let codes = codes(alloc, reader, locals.as_slice(), first)?;
-    Ok(Main { locals, codes })
+    Ok(Main {
+        stated,
+        locals,
+        codes,
+    })
 }
 
 /// What stands between the braces.
-fn inner(alloc: Global, reader: &mut Reader) -> Result<Main, ReadFault>
-    ensures { Gives (reading.inner_in reader.old) result reader.new }
+fn inner(alloc: Global, reader: &mut Reader, stated: Option<HType>) -> Result<Main, ReadFault>
+    ensures { Gives (reading.inner_in stated reader.old) result reader.new }
 {
     match reader.take() {
         Piece::Directive(word) => {
             if word == b"declvars".as_slice() {
-                declared(alloc, reader)
+                declared(alloc, reader, stated)
             } else {
                 Err(ReadFault::OtherForm)
             }
         }
-        Piece::Word(name) => coded(alloc, reader, Seq::new(alloc), name),
+        Piece::Word(name) => coded(alloc, reader, stated, Seq::new(alloc), name),
         _ => Err(ReadFault::OtherForm),
     }
 }
@@ -245,8 +283,8 @@ fn main_in(alloc: Global, reader: &mut Reader) -> Result<Main, ReadFault>
     ensures { Reads (reading.main_in reader.old) result }
 {
     profile(reader)?;
-    heading(reader)?;
-    let main = inner(alloc, reader)?;
+    let stated = heading(reader)?;
+    let main = inner(alloc, reader, stated)?;
     closing(reader)?;
     Ok(main)
 }
@@ -257,7 +295,7 @@ fn has_comment(text: &[u8]) -> bool
     text.iter().any(|byte| *byte == b'#')
 }
 
-/// The function of a text of the first form.
+/// The function of a text of the form that is read.
 pub fn read(alloc: Global, text: &[u8]) -> Result<Main, ReadFault>
     requires { length text.now < 2 ^ 32 }
     ensures { Reads (reading.main_of text.now) result }
@@ -268,17 +306,17 @@ pub fn read(alloc: Global, text: &[u8]) -> Result<Main, ReadFault>
     main_in(alloc, &mut Reader::new(text))
 }
 
-/// What is read is of a text of the first form, and its repository is the text's.
+/// What is read is of a text of the form, and its repository is the text's.
 pub fn reading_is_sound()
     ensures { ReadingIsSound }
 {}
 
-/// Each text of the first form is read, and its repository is what was read.
+/// Each text of the form is read, and its repository is what was read.
 pub fn reading_is_complete()
     ensures { ReadingIsComplete }
 {}
 
-/// The ints of a text of the first form are of 64 bits.
-pub fn first_text_has_words()
-    ensures { FirstTextHasWords }
+/// The ints of a text of the form are of 64 bits.
+pub fn read_text_has_words()
+    ensures { ReadTextHasWords }
 {}

@@ -4,6 +4,7 @@
 ghost use Rattle.std.specs.Prelude.{◌≡◌, ◌⊎◌, IfErr};
 
 mod annotation;
+mod claims;
 mod form;
 mod reader;
 mod status;

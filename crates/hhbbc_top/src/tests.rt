@@ -19,6 +19,9 @@ const NEVER_SET: &[u8] =
 const NEVER_SET_ANNOTATED: &[u8] =
     b".profile 1;\n.function main() .returns Never {\n  .declvars $x;\n  AssertRATL $x Uninit\n  CGetL $x\n  RetC\n}\n";
 
+const CLAIMED: &[u8] =
+    b".profile 1;\n.function main() .returns Int=3 {\n  .declvars $x;\n  AssertRATL $x Uninit\n  Int 2\n  AssertRATStk 0 Bool\n  AssertRATL $x Cell\n  SetL $x\n  PopC\n  AssertRATL $x Str\n  CGetL $x\n  AssertRATStk 0 Int\n  AssertRATStk 0 Null\n  RetC\n}\n";
+
 fn numbers(alloc: Global, items: &[u64]) -> Result<Seq<u64>, Fail> {
     let mut list = Seq::new(alloc);
     for item in items {
@@ -73,8 +76,14 @@ fn expect(
 }
 
 #[test]
-fn texts_of_the_first_form_are_annotated(rt: HostRuntime) -> Result<(), Fail> {
-    for (text, annotated) in [(FIRST, FIRST_ANNOTATED), (NEVER_SET, NEVER_SET_ANNOTATED)] {
+fn texts_of_the_form_are_annotated(rt: HostRuntime) -> Result<(), Fail> {
+    for (text, annotated) in [
+        (FIRST, FIRST_ANNOTATED),
+        (NEVER_SET, NEVER_SET_ANNOTATED),
+        (FIRST_ANNOTATED, FIRST_ANNOTATED),
+        (NEVER_SET_ANNOTATED, NEVER_SET_ANNOTATED),
+        (CLAIMED, FIRST_ANNOTATED),
+    ] {
         expect(
             &rt,
             rt.alloc(),
@@ -156,8 +165,18 @@ fn other_forms_are_not_yet(rt: HostRuntime) -> Result<(), Fail> {
         b".profile 1;.function main(){Null Null}",
         b".profile 1;.function main(){Null RetC Null RetC}",
         b".profile 1;.function main(){.numiters 0;Null RetC}",
-        b".profile 1;.function main() .returns Cell {Null RetC}",
+        b".profile 1;.function main() .returns {Null RetC}",
+        b".profile 1;.function main() .returns Obj {Null RetC}",
+        b".profile 1;.function main() .returns Int|Str {Null RetC}",
+        b".profile 1;.function main() .returns Int= {Null RetC}",
+        b".profile 1;.function main() .returns Str=\"a\" {Null RetC}",
         b".profile 1;.function main(){AssertRATStk 0 Cell Null RetC}",
+        b".profile 1;.function main(){Null AssertRATStk 1 Cell RetC}",
+        b".profile 1;.function main(){Null AssertRATStk -1 Cell RetC}",
+        b".profile 1;.function main(){Null AssertRATStk 0 Int|Str RetC}",
+        b".profile 1;.function main(){Null AssertRATStk 0 Obj RetC}",
+        b".profile 1;.function main(){Null AssertRATL $x Cell RetC}",
+        b".profile 1;.function main(){Null RetC AssertRATStk 0 Cell}",
         b".profile 1;.function main(){CGetL $x RetC}",
         b".profile 1;.function main(){.declvars $x, $x;CGetL $x RetC}",
         b".profile 1;.function main(){.declvars;Null RetC}",

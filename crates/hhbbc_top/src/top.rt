@@ -9,11 +9,11 @@ ghost use Rattle.hhbbc_top.specs.Answer as answers;
 ghost use Rattle.hhbbc_top.specs.Forms.{annotated_text};
 
 use crate::annotation::annotated;
-use crate::form::{Main, first_text_has_words, read, reading_is_complete, reading_is_sound};
+use crate::form::{Main, read_text_has_words, read, reading_is_complete, reading_is_sound};
 use crate::reader::ReadFault;
 use crate::status::{Status, line_of};
 use crate::writer::text_of;
-use func_analyze::{annotated_is_faithful, annotated_is_unique, chain_annotates};
+use func_analyze::{bare_chain_annotates, second_is_faithful, second_is_unique};
 use hack_values::{NoMemory, Text};
 use hh_io::{ReadError, Sink, Source, read_all, write_all};
 use std::alloc::Global;
@@ -93,17 +93,17 @@ fn analyze<S: Source>(alloc: Global, source: &mut S) -> Result<Text, Status>
     }
 }
 
-/// The annotated text of a text of the first form.
+/// The annotated text of a text of the form that is read.
 fn answer_of(alloc: Global, text: &[u8]) -> Result<Text, Status>
     requires { length text.now ≤ LIMIT }
     ensures { MatchResult result (answers.IsAnnotatedText text.now) (λ s. ((s ≡ Status.NotYet) × answers.IsOtherText text.now) ⊎ (s ≡ Status.NoMemory)) }
 {
     reading_is_sound();
     reading_is_complete();
-    chain_annotates();
-    annotated_is_faithful();
-    first_text_has_words();
-    annotated_is_unique();
+    bare_chain_annotates();
+    second_is_faithful();
+    read_text_has_words();
+    second_is_unique();
     match read(alloc, text) {
         Ok(main) => written(alloc, main),
         Err(ReadFault::OtherForm) => Err(Status::NotYet),

@@ -7,13 +7,16 @@ use Rattle.type_lattice.proofs.OrderLaws.{Transitive}
 use Rattle.hhbc_repo.specs.declared.body.Body.{Body}
 use Rattle.hhbc_repo.specs.Linked.{Linked}
 use Rattle.hhbc_repo.specs.Bodies.{built_in_tree}
-use Rattle.hhbc_repo.specs.Form.{IsFirstForm}
+use Rattle.hhbc_repo.specs.Form.{IsFirstForm, IsSecondForm}
 
 abbrev pub only : Body → Linked
 only b = record { functions = b ∷ []; classes = [] }
 
 pub first_is : (r : Linked) (w : IsFirstForm r) → r ≡ only w.body
 first_is r w = λ i. record { functions = w.functions i; classes = w.classes i }
+
+pub second_is : (r : Linked) (w : IsSecondForm r) → r ≡ only w.body
+second_is r w = λ i. record { functions = w.functions i; classes = w.classes i }
 
 -- a class is below itself and below Exception
 has_one : (b x : ℕ) → has b (x ∷ []) ≡ true → b ≡ x

@@ -1,3 +1,4 @@
 pub mod FirstForm
 pub mod Steady
 pub mod Walking
+pub mod Stripped

@@ -1,5 +1,5 @@
--- No run of a repository of the first form that keeps to its shapes is stuck.
-use Rattle.std.proofs.Common.{◌≡◌, ℕ, zero, suc, ◌+◌, ◌-◌, ◌<◌, ◌≤◌, refl, sym, ◌∙◌, ap, subst, Bool, true, false, ◌==◌, nat_eq, Option, Some, None, List, [], ◌∷◌, map, replicate, slice_get, slice_set, length, cond, arith, length-append, leb-true}
+-- No run of a repository of the second form that keeps to its shapes is stuck.
+use Rattle.std.proofs.Common.{◌≡◌, ℕ, zero, suc, ◌+◌, ◌-◌, ◌<◌, ◌≤◌, refl, sym, ◌∙◌, ap, subst, Bool, true, false, ◌&&◌, nat_le, ◌==◌, nat_eq, Option, Some, None, List, [], ◌∷◌, map, replicate, slice_get, slice_set, length, cond, arith, length-append, leb-true}
 use Rattle.std.specs.Cmp.Lexicographic.{pointwise}
 use Rattle.std.proofs.lemmas.Bool.Decides.{Decides-eqb}
 use Rattle.std.proofs.lemmas.Option.{slice_get-map}
@@ -11,7 +11,9 @@ use Rattle.hack_values.specs.declared.cell.Slot.TheVariants as slots
 use Rattle.hack_values.specs.declared.heap.Object.{Object}
 use Rattle.hhbc_ops.specs.declared.op.Op.{Op}
 use Rattle.hhbc_ops.specs.declared.op.Op.TheVariants as ops
-use Rattle.type_lattice.specs.Member.{Heap}
+use Rattle.type_lattice.specs.declared.types.HType.{HType}
+use Rattle.type_lattice.specs.Classes.{Tree}
+use Rattle.type_lattice.specs.Member.{Heap, is_member}
 use Rattle.hhbc_repo.specs.declared.code.Code.{Code}
 use Rattle.hhbc_repo.specs.declared.code.Code.TheVariants as kinds
 use Rattle.hhbc_repo.specs.declared.code.Imm.{Imm}
@@ -19,19 +21,20 @@ use Rattle.hhbc_repo.specs.declared.code.Imm.TheVariants as imms
 use Rattle.hhbc_repo.specs.declared.body.Body.{Body}
 use Rattle.hhbc_repo.specs.declared.body.Position.{Position}
 use Rattle.hhbc_repo.specs.declared.body.Assert.{Assert}
+use Rattle.hhbc_repo.specs.declared.body.Assert.TheVariants as asserts
 use Rattle.hhbc_repo.specs.Linked.{Linked}
 use Rattle.hhbc_repo.specs.Bodies.{body_at, code_at, tree_of}
 use Rattle.hhbc_repo.specs.Bare.{bare_body, bare_position}
 use Rattle.hhbc_repo.specs.Codes.{local_of, pops, pushes, op_pops, goes_on}
-use Rattle.hhbc_repo.specs.Form.{FitsOperands, FitsCode, FitPositions, IsFirstBody}
+use Rattle.hhbc_repo.specs.Form.{FitsOperands, FitsCode, FitClaimed, FitsAssert, FitAsserts, IsSecondBody}
 use Rattle.hhbc_repo.specs.Outcome.{Place, Stuck, WrongCount, Why}
 use Rattle.hhbc_repo.specs.Machine.{World, Frame, Turn, Goes, Calls, Returns, Raises, Ends, Fails, Sticks, with_cell, read_slot, name_or_none, perform, perform_code, turn_in, turn}
 use Rattle.hhbc_repo.specs.Steps.{Config, Running, Ended, place_of, handler_in, caught, uncaught, uncaught_cell, finish, next}
-use Rattle.hhbc_repo.specs.Run.{test, asserts_in, asserts_of, tested, advance, after, entered, no_world, start_in, start, result_of}
-use Rattle.hhbc_repo.specs.Truth.{IsNeverStuck, FirstFormNeverSticks}
-use Rattle.hhbc_repo.specs.Shapes.{given, Types}
-use Rattle.hhbc_repo.proofs.FirstForm.{only, first_is}
-use Rattle.hhbc_repo.proofs.Walking.{fits_at, there, given_next, decides, goes_within, stack_behind, asserts_none}
+use Rattle.hhbc_repo.specs.Run.{slot_in, holds, and_then, test, asserts_in, asserts_of, tested, advance, after, entered, no_world, start_in, start, result_of}
+use Rattle.hhbc_repo.specs.Truth.{IsNeverStuck, FirstFormNeverSticks, SecondFormNeverSticks}
+use Rattle.hhbc_repo.specs.Shapes.{given, assert_reach, reaches, Types}
+use Rattle.hhbc_repo.proofs.FirstForm.{only, second_is}
+use Rattle.hhbc_repo.proofs.Walking.{claimed_at, there, given_next, decides, goes_within, stack_behind, asserts_are, first_is_second}
 
 -- each slot holds a cell
 abbrev pub AllHold : List Slot → Type 0
@@ -139,7 +142,43 @@ abbrev pub Steady : Body → Config → Type 0
 Steady b (Running f fs w) = (fs ≡ []) × HasShape b f
 Steady b (Ended o w) = (why : Why) → o ≡ Stuck why → ⊥
 
-module _ (b : Body) (form : IsFirstBody b) (types : Types (only b)) where
+both : (a c : Bool) → (a && c) ≡ true → (a ≡ true) × (c ≡ true)
+both true c h = (refl, h)
+both false c h = absurd (cc)
+
+-- a slot that is there
+slot_there : (ss : List Slot) (i : ℕ) → i < length ss → (s : Slot) × (slice_get ss i ≡ Some s)
+slot_there [] i l = absurd (omega arith)
+slot_there (s ∷ ss) zero l = (s, refl)
+slot_there (s ∷ ss) (suc i) l = slot_there ss i (omega arith)
+
+-- what an assertion finds
+found : (tree : Tree) (heap : Heap) (o : Option Slot) (s : Slot) (t : HType) → o ≡ Some s → (b : Bool) × (slot_in tree heap o t ≡ Some b)
+found tree heap o s t e = (is_member tree heap s t, ap (λ (o : Option Slot). slot_in tree heap o t) e)
+
+asserted : (tree : Tree) (heap : Heap) (f : Frame) (count : ℕ) (a : Assert) → length f.locals ≡ count → FitsAssert count a
+    → nat_le (assert_reach a) (length f.stack) ≡ true → (b : Bool) × (holds tree heap f a ≡ Some b)
+asserted tree heap f count (asserts.Local l t) e fits r =
+    let s = slot_there f.locals l (omega (arith, e, fits.0)) in found tree heap (slice_get f.locals l) s.0 t s.1
+asserted tree heap f count (asserts.Stack i t) e fits r =
+    let m : suc i ≤ length f.stack = leb-true _ _ r in
+    let s = slot_there f.stack i (omega (arith, m)) in found tree heap (slice_get f.stack i) s.0 t s.1
+
+one_found : (b : Body) (f : Frame) (w : World) (step : Config) (t : Bool) (more : Option Bool) → Steady b (tested more f w step)
+    → Steady b (tested (and_then (Some t) more) f w step)
+one_found b f w step true more k = k
+one_found b f w step false more k = λ why i. cc
+
+test_goes : (b : Body) (tree : Tree) (heap : Heap) (f : Frame) (w : World) (step : Config) (count : ℕ) (xs : List Assert) → length f.locals ≡ count
+    → FitAsserts count xs → reaches xs (length f.stack) ≡ true → Steady b step → Steady b (tested (test tree heap f xs) f w step)
+test_goes b tree heap f w step count [] e fits r k = k
+test_goes b tree heap f w step count (a ∷ more) e fits r k =
+    let h = both (nat_le (assert_reach a) (length f.stack)) _ r in
+    let x = asserted tree heap f count a e fits.0 h.0 in
+    subst (λ (o : Option Bool). Steady b (tested (and_then o (test tree heap f more)) f w step)) (sym x.1)
+    (one_found b f w step x.0 (test tree heap f more) (test_goes b tree heap f w step count more e fits.1 h.1 k))
+
+module _ (b : Body) (form : IsSecondBody b) (types : Types (only b)) where
   steady_turn : (f : Frame) (q : Position) (t : Turn) → HasShape b f → slice_get b.positions f.position ≡ Some q → Keeps f q.code t
       → Steady b (finish (only (bare_body b)) f [] t)
   steady_turn f q (Goes g v) h e k =
@@ -168,28 +207,33 @@ module _ (b : Body) (form : IsFirstBody b) (types : Types (only b)) where
   steady_next : (f : Frame) (w : World) → HasShape b f → Steady b (finish (only (bare_body b)) f [] (turn (only (bare_body b)) f w))
   steady_next f w h =
       let q = there b.positions f.position h.within in
-      let fits = fits_at _ b.positions f.position q.0 form.positions q.1 in
+      let fits = claimed_at _ b.positions f.position q.0 form.positions q.1 in
       let pass = (decides b form f.position q.0 q.1 h.within).1 (types.passes 0 b refl f.position h.within) in
-      let enough : length (pops q.0.code) ≤ length (given b f.position).stack = leb-true _ _ pass in
+      let enough : length (pops q.0.code) ≤ length (given b f.position).stack =
+      leb-true _ _ (both (reaches q.0.asserts (length (given b f.position).stack)) _ pass).1 in
       let d = h.depth in
       let k = keeps_code (length b.locals) q.0.code (bare_body b) f w fits.fits h.holds h.locals (omega (arith, enough, d)) in
       subst (λ (t : Turn). Steady b (finish (only (bare_body b)) f [] t)) (sym (turn_is b f w q.0 h.body q.1))
       (steady_turn f q.0 (perform_code (Some q.0.code) (bare_body b) f w) h q.1 k)
 
-  -- a position of the form has no assertions, so testing them changes nothing
-  pub none_tested : (f : Frame) (w : World) (step : Config) → HasShape b f
-      → tested (test (tree_of (only b)) w.heap f (asserts_of (only b) f)) f w step ≡ step
-  none_tested f w step h =
+  -- each assertion of a position finds its slot, so testing them goes on or finds a false one
+  asserts_found : (f : Frame) (w : World) (step : Config) → HasShape b f → Steady b step
+      → Steady b (tested (test (tree_of (only b)) w.heap f (asserts_of (only b) f)) f w step)
+  asserts_found f w step h k =
       let q = there b.positions f.position h.within in
-      let fits = fits_at _ b.positions f.position q.0 form.positions q.1 in
-      let none : asserts_of (only b) f ≡ [] =
-      ap (λ (o : Option Body). asserts_in o f.position) (only_at b f.body h.body) ∙ asserts_none b f.position q.0 q.1 fits.bare in
-      ap (λ (xs : List Assert). tested (test (tree_of (only b)) w.heap f xs) f w step) none
+      let fits = claimed_at _ b.positions f.position q.0 form.positions q.1 in
+      let pass = (decides b form f.position q.0 q.1 h.within).1 (types.passes 0 b refl f.position h.within) in
+      let reach : reaches q.0.asserts (length (given b f.position).stack) ≡ true = (both _ _ pass).0 in
+      let these : asserts_of (only b) f ≡ q.0.asserts =
+      ap (λ (o : Option Body). asserts_in o f.position) (only_at b f.body h.body) ∙ asserts_are b f.position q.0 q.1 in
+      subst (λ (xs : List Assert). Steady b (tested (test (tree_of (only b)) w.heap f xs) f w step)) (sym these)
+      (test_goes b (tree_of (only b)) w.heap f w step (length b.locals) q.0.asserts h.locals fits.claims
+      (subst (λ (n : ℕ). reaches q.0.asserts n ≡ true) (sym h.depth) reach) k)
 
   steady_turns : (asserted : Bool) (c : Config) → Steady b c → Steady b (advance (only b) asserted c)
   steady_turns true (Running f fs w) h =
       subst (λ (fs : List Frame). Steady b (advance (only b) true (Running f fs w))) (sym h.0)
-      (subst (λ (c : Config). Steady b c) (sym (none_tested f w (next (only (bare_body b)) (Running f [] w)) h.1)) (steady_next f w h.1))
+      (asserts_found f w (next (only (bare_body b)) (Running f [] w)) h.1 (steady_next f w h.1))
   steady_turns false (Running f fs w) h =
       subst (λ (fs : List Frame). Steady b (advance (only b) false (Running f fs w))) (sym h.0) (steady_next f w h.1)
   steady_turns true (Ended o w) h = h
@@ -199,7 +243,7 @@ module _ (b : Body) (form : IsFirstBody b) (types : Types (only b)) where
   steady_after asserted c h zero = h
   steady_after asserted c h (suc n) = steady_turns asserted (after (only b) asserted c n) (steady_after asserted c h n)
 
-  some_position : (ps : List Position) (count : ℕ) → FitPositions count ps → 0 < length ps
+  some_position : (ps : List Position) (count : ℕ) → FitClaimed count ps → 0 < length ps
   some_position [] count h = absurd h
   some_position (x ∷ ps) count h = omega arith
 
@@ -236,9 +280,12 @@ steady_result : (b : Body) (c : Config) (why : Why) → Steady b c → (result_o
 steady_result b (Running f fs w) why h e = cc
 steady_result b (Ended o w) why h e = h why e
 
-pub first_form_never_sticks : FirstFormNeverSticks
-first_form_never_sticks r form types =
-    subst (λ (r : Linked). IsNeverStuck r) (sym (first_is r form))
+pub second_form_never_sticks : SecondFormNeverSticks
+second_form_never_sticks r form types =
+    subst (λ (r : Linked). IsNeverStuck r) (sym (second_is r form))
     (λ entry args n asserted why legal e.
-    let t = subst (λ (r : Linked). Types r) (first_is r form) types in
-    steady_result form.body _ why (steady_after form.body form.first t asserted _ (steady_start form.body form.first t entry args) n) e)
+    let t = subst (λ (r : Linked). Types r) (second_is r form) types in
+    steady_result form.body _ why (steady_after form.body form.second t asserted _ (steady_start form.body form.second t entry args) n) e)
+
+pub first_form_never_sticks : FirstFormNeverSticks
+first_form_never_sticks r form types = second_form_never_sticks r (first_is_second r form) types

@@ -1,4 +1,4 @@
--- A repository of the first form keeps to its shapes exactly where no code reaches below the stack.
+-- A repository of the second form keeps to its shapes exactly where no code and no assertion reaches below the stack.
 use Rattle.std.proofs.Common.{◌≡◌, ◌≢◌, ◌↔◌, ℕ, zero, suc, ◌+◌, ◌-◌, ◌*◌, ◌<◌, ◌≤◌, refl, sym, ◌∙◌, ap, subst, Bool, true, false, ◌&&◌, ◌==◌, nat_le, nat_lt, Option, Some, None, List, [], ◌∷◌, ◌++◌, flat_map, slice_get, length, drop, cond, arith, length-append, length-drop, mul-le-mul, le-leb, ltb-true, ltb-false}
 use Rattle.std.proofs.lemmas.Bool.Decides.{Decides-eqb}
 use Rattle.hhbc_ops.specs.declared.op.Op.{Op}
@@ -7,16 +7,18 @@ use Rattle.hhbc_repo.specs.declared.code.Code.{Code}
 use Rattle.hhbc_repo.specs.declared.code.Code.TheVariants as kinds
 use Rattle.hhbc_repo.specs.declared.code.Imm.{Imm}
 use Rattle.hhbc_repo.specs.declared.code.Imm.TheVariants as imms
+use Rattle.type_lattice.specs.declared.types.HType.{HType}
+use Rattle.hhbc_repo.specs.declared.body.Assert.{Assert}
 use Rattle.hhbc_repo.specs.declared.body.Body.{Body}
 use Rattle.hhbc_repo.specs.declared.body.Position.{Position}
 use Rattle.hhbc_repo.specs.Linked.{Linked}
 use Rattle.hhbc_repo.specs.Bodies.{code_at, asserts_at}
 use Rattle.hhbc_repo.specs.Codes.{Flavour, C, U, labels_in, labels, op_pops, op_pushes, pops, pushes, throws, goes_on, op_goes_on}
 use Rattle.hhbc_repo.specs.Edges.{Edge, Next, handler_of, handler_edges, next_edges, edges_of, edges}
-use Rattle.hhbc_repo.specs.Form.{FitsOperands, FitsCode, FitsPosition, FitPositions, IsReturn, IsFirstBody}
+use Rattle.hhbc_repo.specs.Form.{FitsOperands, FitsCode, FitsPosition, FitPositions, IsReturn, IsFirstBody, IsFirstForm, FitAsserts, FitsStated, FitsClaimed, FitClaimed, IsSecondBody, IsSecondForm}
 use Rattle.hhbc_repo.specs.Shapes.{Shape, Check, ShapeKind, Underflow, WrongFlavour, TooManyCells, given, given_after, given_by, shapes, edge_to, after, behind, agree, same_live, edge_checks, all_edge_checks, last_checks, first_fault, fault_at, deepest, cells, reaches, pops_of, Types}
-use Rattle.hhbc_repo.specs.Walks.{walks, TypesWhereItWalks}
-use Rattle.hhbc_repo.proofs.FirstForm.{only, first_is}
+use Rattle.hhbc_repo.specs.Walks.{walks, walks_asserted, TypesWhereItWalks, TypesWhereAssertedWalks}
+use Rattle.hhbc_repo.proofs.FirstForm.{only, second_is}
 
 is_false : (t : Bool) → (t ≡ true → ⊥) → t ≡ false
 is_false true h = absurd (h refl)
@@ -72,13 +74,21 @@ fits_at count (x ∷ []) (suc p) q w e = absurd (cc)
 fits_at count (x ∷ y ∷ ps) zero q w e = let k : x ≡ q = cc in subst (λ (y : Position). FitsPosition count y) k w.0
 fits_at count (x ∷ y ∷ ps) (suc p) q w e = fits_at count (y ∷ ps) p q w.2 e
 
-not_last : (count : ℕ) (ps : List Position) (p : ℕ) (q : Position) → FitPositions count ps → slice_get ps p ≡ Some q → suc p < length ps → IsReturn q.code → ⊥
+-- the positions of the second form
+pub claimed_at : (count : ℕ) (ps : List Position) (p : ℕ) (q : Position) → FitClaimed count ps → slice_get ps p ≡ Some q → FitsClaimed count q
+claimed_at count [] p q w e = absurd w
+claimed_at count (x ∷ []) zero q w e = let k : x ≡ q = cc in subst (λ (y : Position). FitsClaimed count y) k w.0
+claimed_at count (x ∷ []) (suc p) q w e = absurd (cc)
+claimed_at count (x ∷ y ∷ ps) zero q w e = let k : x ≡ q = cc in subst (λ (y : Position). FitsClaimed count y) k w.0
+claimed_at count (x ∷ y ∷ ps) (suc p) q w e = claimed_at count (y ∷ ps) p q w.2 e
+
+not_last : (count : ℕ) (ps : List Position) (p : ℕ) (q : Position) → FitClaimed count ps → slice_get ps p ≡ Some q → suc p < length ps → IsReturn q.code → ⊥
 not_last count [] p q w e l = absurd w
 not_last count (x ∷ []) p q w e l = absurd (omega arith)
 not_last count (x ∷ y ∷ ps) zero q w e l = let k : x ≡ q = cc in subst (λ (y : Position). IsReturn y.code → ⊥) k w.1
 not_last count (x ∷ y ∷ ps) (suc p) q w e l = not_last count (y ∷ ps) p q w.2 e (omega arith)
 
-is_last : (count : ℕ) (ps : List Position) (p : ℕ) (q : Position) → FitPositions count ps → slice_get ps p ≡ Some q → suc p ≡ length ps → IsReturn q.code
+is_last : (count : ℕ) (ps : List Position) (p : ℕ) (q : Position) → FitClaimed count ps → slice_get ps p ≡ Some q → suc p ≡ length ps → IsReturn q.code
 is_last count [] p q w e l = absurd w
 is_last count (x ∷ []) zero q w e l = let k : x ≡ q = cc in subst (λ (y : Position). IsReturn y.code) k w.1
 is_last count (x ∷ []) (suc p) q w e l = absurd (cc)
@@ -137,9 +147,9 @@ edge_elsewhere false j q l = refl
 edge_here : (q : ℕ) → edge_to (suc q) (next_edges true q) ≡ Some (Next (suc q))
 edge_here q = rw ((Decides-eqb (suc q) (suc q)).1 refl) refl
 
-module _ (count : ℕ) (b : Body) (g : b.regions ≡ []) (w : FitPositions count b.positions) where
+module _ (count : ℕ) (b : Body) (g : b.regions ≡ []) (w : FitClaimed count b.positions) where
   edges_at : (p : ℕ) (q : Position) → slice_get b.positions p ≡ Some q → edges b p ≡ next_edges (goes_on q.code) p
-  edges_at p q e = edges_are count b p (code_at b p) q.code g (code_is b p q e) (fits_at count b.positions p q w e).fits
+  edges_at p q e = edges_are count b p (code_at b p) q.code g (code_is b p q e) (claimed_at count b.positions p q w e).fits
 
   -- a position has the shape that the one before it leaves
   pub given_next : (p : ℕ) (q : Position) → slice_get b.positions p ≡ Some q → suc p < length b.positions → given b (suc p) ≡ behind q.code (given b p)
@@ -259,13 +269,16 @@ deepest_last (x ∷ xs) y m h k =
 pub asserts_none : (b : Body) (p : ℕ) (q : Position) → slice_get b.positions p ≡ Some q → q.asserts ≡ [] → asserts_at b p ≡ []
 asserts_none b p q e f = rw (e, f) refl
 
+pub asserts_are : (b : Body) (p : ℕ) (q : Position) → slice_get b.positions p ≡ Some q → asserts_at b p ≡ q.asserts
+asserts_are b p q e = rw e refl
+
 few_cells : (n l d i : ℕ) → n ≤ 200 → l ≤ 255 → d ≤ 200 → i ≡ 0 → n * (l + d + i) ≤ 1000000
 few_cells n l d i h k m z =
     let x : l + d + i ≤ 455 = omega arith in
     let y : n * (l + d + i) ≤ 200 * 455 = mul-le-mul h x in
     omega (arith, y)
 
-module _ (b : Body) (form : IsFirstBody b) where
+module _ (b : Body) (form : IsSecondBody b) where
   low : (p : ℕ) → p < length b.positions → IsLow p (given b p)
   low zero l = record { cells = tt; depth = omega arith }
   low (suc p) l =
@@ -330,11 +343,10 @@ module _ (b : Body) (form : IsFirstBody b) where
 
   -- a position passes where it finds what it takes
   pub decides : (p : ℕ) (q : Position) → slice_get b.positions p ≡ Some q → p < length b.positions
-      → (nat_le (length (pops q.code)) (length (given b p).stack) ≡ true) ↔ (fault_at b p ≡ None)
+      → ((reaches q.asserts (length (given b p).stack) && nat_le (length (pops q.code)) (length (given b p).stack)) ≡ true) ↔ (fault_at b p ≡ None)
   decides p q e l =
-      let f = fits_at _ b.positions p q form.positions e in
       let h : (reaches (asserts_at b p) (length (given b p).stack) && nat_le (length (pops_of (code_at b p))) (length (given b p).stack))
-      ≡ nat_le (length (pops q.code)) (length (given b p).stack) = rw (asserts_none b p q e f.bare, code_is b p q e) refl in
+      ≡ (reaches q.asserts (length (given b p).stack) && nat_le (length (pops q.code)) (length (given b p).stack)) = rw (asserts_are b p q e, code_is b p q e) refl in
       subst (λ t. (t ≡ true) ↔ (fault_at b p ≡ None)) h
       (first_decides _ Underflow
       ((WrongFlavour, agree (pops_of (code_at b p)) (given b p).stack) ∷ (all_edge_checks b p (given b p) (edges b p) ++ last_checks b p))
@@ -377,7 +389,7 @@ module _ (b : Body) (form : IsFirstBody b) where
   join : (a c : Bool) → a ≡ true → c ≡ true → (a && c) ≡ true
   join a c h k = rw (h, k) refl
 
-  from_walks : (p : ℕ) (ps : List Position) → From p ps → walks (length (given b p).stack) ps ≡ true
+  from_walks : (p : ℕ) (ps : List Position) → From p ps → walks_asserted (length (given b p).stack) ps ≡ true
       → (i : ℕ) → i < length ps → fault_at b (p + i) ≡ None
   from_walks p [] h w i l = absurd (omega arith)
   from_walks p (x ∷ ps) h w zero l =
@@ -387,25 +399,25 @@ module _ (b : Body) (form : IsFirstBody b) where
   from_walks p (x ∷ []) h w (suc i) l = absurd (omega arith)
   from_walks p (x ∷ y ∷ ps) h w (suc i) l =
       let e : suc p + i ≡ p + suc i = omega arith in
-      let k : walks (length (given b (suc p)).stack) (y ∷ ps) ≡ true =
-      subst (λ d. walks d (y ∷ ps) ≡ true) (sym (depth_next p x y ps h)) (both (nat_le (length (pops x.code)) (length (given b p).stack)) _ w).1 in
+      let k : walks_asserted (length (given b (suc p)).stack) (y ∷ ps) ≡ true =
+      subst (λ d. walks_asserted d (y ∷ ps) ≡ true) (sym (depth_next p x y ps h)) (both (reaches x.asserts (length (given b p).stack) && nat_le (length (pops x.code)) (length (given b p).stack)) _ w).1 in
       subst (λ n. fault_at b n ≡ None) e (from_walks (suc p) (y ∷ ps) (tail_of p x (y ∷ ps) h) k i (omega arith))
 
   found : (p : ℕ) (x : Position) (ps : List Position) → From p (x ∷ ps) → ((i : ℕ) → i < length (x ∷ ps) → fault_at b (p + i) ≡ None)
-      → nat_le (length (pops x.code)) (length (given b p).stack) ≡ true
+      → (reaches x.asserts (length (given b p).stack) && nat_le (length (pops x.code)) (length (given b p).stack)) ≡ true
   found p x ps h w =
       let c = h.count in
       let e : p + 0 ≡ p = omega arith in
       (decides p x (first_of p x ps h) (omega (arith, c))).1 (subst (λ n. fault_at b n ≡ None) e (w 0 (omega arith)))
 
   to_walks : (p : ℕ) (ps : List Position) → From p ps → ((i : ℕ) → i < length ps → fault_at b (p + i) ≡ None)
-      → walks (length (given b p).stack) ps ≡ true
+      → walks_asserted (length (given b p).stack) ps ≡ true
   to_walks p [] h w = refl
   to_walks p (x ∷ []) h w = join _ _ (found p x [] h w) refl
   to_walks p (x ∷ y ∷ ps) h w =
       let t = to_walks (suc p) (y ∷ ps) (tail_of p x (y ∷ ps) h)
       (λ i l. let e : p + suc i ≡ suc p + i = omega arith in subst (λ n. fault_at b n ≡ None) e (w (suc i) (omega arith))) in
-      join _ _ (found p x (y ∷ ps) h w) (subst (λ d. walks d (y ∷ ps) ≡ true) (depth_next p x y ps h) t)
+      join _ _ (found p x (y ∷ ps) h w) (subst (λ d. walks_asserted d (y ∷ ps) ≡ true) (depth_next p x y ps h) t)
 
   whole : From 0 b.positions
   whole = record {
@@ -413,7 +425,7 @@ module _ (b : Body) (form : IsFirstBody b) where
     count = omega arith;
   }
 
-  some_positions : (ps : List Position) (count : ℕ) → FitPositions count ps → ps ≢ []
+  some_positions : (ps : List Position) (count : ℕ) → FitClaimed count ps → ps ≢ []
   some_positions [] count h = absurd h
   some_positions (x ∷ ps) count h = λ e. cc
 
@@ -421,7 +433,7 @@ module _ (b : Body) (form : IsFirstBody b) where
   is_it zero c e = cc
   is_it (suc n) c e = absurd (cc)
 
-  types : walks 0 b.positions ≡ true → Types (only b)
+  types : walks_asserted 0 b.positions ≡ true → Types (only b)
   types w = record {
     has_positions = λ n c e. let k = is_it n c e in subst (λ (c : Body). c.positions ≢ []) k (some_positions b.positions _ form.positions);
     passes = λ n c e p l.
@@ -431,10 +443,53 @@ module _ (b : Body) (form : IsFirstBody b) where
         subst (λ (c : Body). fault_at c p ≡ None) k (subst (λ n. fault_at b n ≡ None) z (from_walks 0 b.positions whole w p m));
   }
 
-  typed : Types (only b) → walks 0 b.positions ≡ true
+  typed : Types (only b) → walks_asserted 0 b.positions ≡ true
   typed t = to_walks 0 b.positions whole (λ i l. let z : i ≡ 0 + i = omega arith in subst (λ n. fault_at b n ≡ None) z (t.passes 0 b refl i l))
+
+pub types_where_asserted_walks : TypesWhereAssertedWalks
+types_where_asserted_walks r form =
+    subst (λ (r : Linked). (walks_asserted 0 form.body.positions ≡ true) ↔ Types r) (sym (second_is r form))
+    (types form.body form.second, typed form.body form.second)
+
+-- the first form is the second one without claims
+no_claims : (count : ℕ) (xs : List Assert) → xs ≡ [] → FitAsserts count xs
+no_claims count xs e = subst (λ (ys : List Assert). FitAsserts count ys) (sym e) tt
+
+claimed_one : (count : ℕ) (p : Position) → FitsPosition count p → FitsClaimed count p
+claimed_one count p h = record { claims = no_claims count p.asserts h.bare; fits = h.fits }
+
+claimed_from : (count : ℕ) (ps : List Position) → FitPositions count ps → FitClaimed count ps
+claimed_from count [] h = absurd h
+claimed_from count (p ∷ []) h = (claimed_one count p h.0, h.1)
+claimed_from count (p ∷ q ∷ ps) h = (claimed_one count p h.0, h.1, claimed_from count (q ∷ ps) h.2)
+
+none_stated : (o : Option HType) → o ≡ None → FitsStated o
+none_stated o e = subst (λ (o : Option HType). FitsStated o) (sym e) tt
+
+second_from : (b : Body) → IsFirstBody b → IsSecondBody b
+second_from b h = record {
+  name = h.name;
+  params = h.params;
+  iters = h.iters;
+  stated = none_stated b.stated h.stated;
+  regions = h.regions;
+  differ = h.differ;
+  locals = h.locals;
+  few = h.few;
+  positions = claimed_from (length b.locals) b.positions h.positions;
+}
+
+pub first_is_second : (r : Linked) → IsFirstForm r → IsSecondForm r
+first_is_second r w = record { body = w.body; functions = w.functions; classes = w.classes; second = second_from w.body w.first }
+
+same_walk : (count depth : ℕ) (ps : List Position) → FitPositions count ps → walks_asserted depth ps ≡ walks depth ps
+same_walk count depth [] h = absurd h
+same_walk count depth (p ∷ []) h = rw h.0.bare refl
+same_walk count depth (p ∷ q ∷ ps) h =
+    let here : (reaches p.asserts depth && nat_le (length (pops p.code)) depth) ≡ nat_le (length (pops p.code)) depth = rw h.0.bare refl in
+    (λ i. here i && same_walk count (length (pushes p.code) + (depth - length (pops p.code))) (q ∷ ps) h.2 i)
 
 pub types_where_it_walks : TypesWhereItWalks
 types_where_it_walks r form =
-    subst (λ (r : Linked). (walks 0 form.body.positions ≡ true) ↔ Types r) (sym (first_is r form))
-    (types form.body form.first, typed form.body form.first)
+    subst (λ (t : Bool). (t ≡ true) ↔ Types r) (same_walk _ 0 form.body.positions form.first.positions)
+    (types_where_asserted_walks r (record { body = form.body; functions = form.functions; classes = form.classes; second = second_from form.body form.first }))

@@ -1,7 +1,7 @@
 -- What tokens spell: relations between tokens and parts, one for each rule of the grammar. This is the part of the
--- grammar with functions of plain instructions; labels, try bodies, assertions, member sequences, stated types,
--- iterators and classes are further cases.
-use Rattle.std.specs.Prelude.{◌≡◌, ℕ, List, [], ◌∷◌, ◌++◌, None, codes, pos}
+-- grammar with functions of plain instructions and claims of plain types; labels, try bodies, member sequences, other
+-- types, iterators and classes are further cases.
+use Rattle.std.specs.Prelude.{◌≡◌, ◌≤◌, ℕ, List, [], ◌∷◌, ◌++◌, Option, Some, None, codes, pos}
 use Rattle.hhas_lex.specs.Tokens.{Token, Directive, Word, Local, Integer, Mark, End}
 use Rattle.hhbc_ops.specs.declared.words.ImmKind.{ImmKind}
 use Rattle.hhbc_ops.specs.declared.words.ImmKind.TheVariants as kinds
@@ -10,11 +10,15 @@ use Rattle.hhbc_repo.specs.declared.parts.BodyParts.{BodyParts}
 use Rattle.hhbc_repo.specs.declared.parts.ItemParts.{ItemParts}
 use Rattle.hhbc_repo.specs.declared.parts.ItemParts.TheVariants as items
 use Rattle.hhbc_repo.specs.declared.parts.PositionParts.{PositionParts}
+use Rattle.hhbc_repo.specs.declared.parts.AssertParts.{AssertParts}
+use Rattle.hhbc_repo.specs.declared.parts.AssertParts.TheVariants as claims
+use Rattle.hhbc_repo.specs.declared.parts.TypeParts.{TypeParts}
 use Rattle.hhbc_repo.specs.declared.parts.CodeParts.{CodeParts}
 use Rattle.hhbc_repo.specs.declared.parts.CodeParts.TheVariants as forms
 use Rattle.hhbc_repo.specs.declared.parts.InstrParts.{InstrParts}
 use Rattle.hhbc_repo.specs.declared.parts.ImmParts.{ImmParts}
 use Rattle.hhbc_repo.specs.declared.parts.ImmParts.TheVariants as imms
+use Rattle.hhbc_repo.specs.PlainTypes.{PlainType, type_of, type_tokens}
 
 -- one operand, of a kind
 abbrev pub Operand : ImmKind → List Token → ImmParts → Type 0
@@ -36,10 +40,30 @@ abbrev pub ACode : List Token → CodeParts → Type 0
 ACode ts (forms.Plain i) = Instruction ts i
 ACode ts (forms.Member m) = ⊥
 
--- a code, with no assertion before it
+-- a type, which names no class
+pub record AType (ts : List Token) (t : TypeParts) : Type 0 where
+  pub plain : PlainType
+  pub is : t.t ≡ type_of plain
+  pub classes : t.classes ≡ []
+  pub tokens : ts ≡ type_tokens plain
+
+-- an assertion: its word, its local or its slot, and a type
+abbrev pub AnAssert : List Token → AssertParts → Type 0
+AnAssert ts (claims.Local name t) = (stated : List Token) × AType stated t × (ts ≡ Word (codes "AssertRATL") ∷ Local name ∷ stated)
+AnAssert ts (claims.Stack i t) =
+    (stated : List Token) × AType stated t × (i ≤ 254) × (ts ≡ Word (codes "AssertRATStk") ∷ Integer (pos i) ∷ stated)
+
+abbrev pub Asserts : List Token → List AssertParts → Type 0
+Asserts ts [] = ts ≡ []
+Asserts ts (x ∷ xs) = (a b : List Token) × AnAssert a x × Asserts b xs × (ts ≡ a ++ b)
+
+-- assertions, and the code that they stand before
 pub record APosition (ts : List Token) (p : PositionParts) : Type 0 where
-  pub asserts : p.asserts ≡ []
-  pub code : ACode ts p.code
+  pub before : List Token
+  pub behind : List Token
+  pub asserts : Asserts before p.asserts
+  pub code : ACode behind p.code
+  pub tokens : ts ≡ before ++ behind
 
 abbrev pub AnItem : List Token → ItemParts → Type 0
 AnItem ts (items.Position p) = APosition ts p
@@ -65,17 +89,23 @@ abbrev pub Params : List Token → List (List ℕ) → Type 0
 Params ts [] = ts ≡ Mark 40 ∷ Mark 41 ∷ []
 Params ts (x ∷ xs) = (names : List Token) × Locals names (x ∷ xs) × (ts ≡ Mark 40 ∷ (names ++ Mark 41 ∷ []))
 
--- ".function", a name, parameters, and in braces declared locals and items
+-- ".returns" and a type, where one is stated
+abbrev pub Returns : List Token → Option TypeParts → Type 0
+Returns ts None = ts ≡ []
+Returns ts (Some t) = (stated : List Token) × AType stated t × (ts ≡ Directive (codes "returns") ∷ stated)
+
+-- ".function", a name, parameters, what it states, and in braces declared locals and items
 pub record AFunction (ts : List Token) (b : BodyParts) : Type 0 where
   pub params : List Token
+  pub returns : List Token
   pub declared : List Token
   pub inner : List Token
   pub iters : b.iters ≡ 0
-  pub stated : b.stated ≡ None
+  pub spell_returns : Returns returns b.stated
   pub spell_params : Params params b.params
   pub spell_declared : Declared declared b.locals
   pub spell_items : Items inner b.items
-  pub tokens : ts ≡ Directive (codes "function") ∷ Word b.name ∷ (params ++ (Mark 123 ∷ (declared ++ (inner ++ Mark 125 ∷ []))))
+  pub tokens : ts ≡ Directive (codes "function") ∷ Word b.name ∷ (params ++ (returns ++ (Mark 123 ∷ (declared ++ (inner ++ Mark 125 ∷ [])))))
 
 abbrev pub Functions : List Token → List BodyParts → Type 0
 Functions ts [] = ts ≡ []

@@ -1,4 +1,5 @@
--- Linking: names become numbers. This is linking of functions of plain instructions without claims; the rest are further cases.
+-- Linking: names become numbers. This is linking of functions of plain instructions and of claims that name no class; the rest are
+-- further cases.
 use Rattle.std.specs.Prelude.{◌≡◌, ◌≤◌, ℕ, nat_eq, List, [], ◌∷◌, ◌++◌, Option, Some, None, length}
 use Rattle.std.specs.List.{position}
 use Rattle.std.specs.Cmp.Lexicographic.{pointwise}
@@ -10,6 +11,12 @@ use Rattle.hhbc_repo.specs.declared.parts.CodeParts.{CodeParts}
 use Rattle.hhbc_repo.specs.declared.parts.CodeParts.TheVariants as forms
 use Rattle.hhbc_repo.specs.declared.parts.ImmParts.{ImmParts}
 use Rattle.hhbc_repo.specs.declared.parts.ImmParts.TheVariants as names
+use Rattle.hhbc_repo.specs.declared.parts.AssertParts.{AssertParts}
+use Rattle.hhbc_repo.specs.declared.parts.AssertParts.TheVariants as claims
+use Rattle.hhbc_repo.specs.declared.parts.TypeParts.{TypeParts}
+use Rattle.type_lattice.specs.declared.types.HType.{HType}
+use Rattle.hhbc_repo.specs.declared.body.Assert.{Assert}
+use Rattle.hhbc_repo.specs.declared.body.Assert.TheVariants as asserts
 use Rattle.hhbc_repo.specs.declared.body.Body.{Body}
 use Rattle.hhbc_repo.specs.declared.body.Position.{Position}
 use Rattle.hhbc_repo.specs.declared.code.Code.{Code}
@@ -38,8 +45,28 @@ abbrev pub LinksCode : List (List ℕ) → CodeParts → Code → Type 0
 LinksCode locals (forms.Plain i) (kinds.Plain j) = (i.op ≡ j.op) × LinksOperands locals i.imms j.imms
 LinksCode locals _ _ = ⊥
 
+-- a type that names no class is itself
+abbrev pub LinksType : TypeParts → HType → Type 0
+LinksType t u = (t.classes ≡ []) × (u ≡ t.t)
+
+abbrev pub LinksAssert : List (List ℕ) → AssertParts → Assert → Type 0
+LinksAssert locals (claims.Local name t) (asserts.Local l u) = (place_of name locals ≡ Some l) × LinksType t u
+LinksAssert locals (claims.Stack i t) (asserts.Stack j u) = (i ≡ j) × LinksType t u
+LinksAssert locals _ _ = ⊥
+
+abbrev pub LinksAsserts : List (List ℕ) → List AssertParts → List Assert → Type 0
+LinksAsserts locals [] [] = Unit {0}
+LinksAsserts locals [] (y ∷ ys) = ⊥
+LinksAsserts locals (x ∷ xs) [] = ⊥
+LinksAsserts locals (x ∷ xs) (y ∷ ys) = LinksAssert locals x y × LinksAsserts locals xs ys
+
+abbrev pub LinksStated : Option TypeParts → Option HType → Type 0
+LinksStated None None = Unit {0}
+LinksStated (Some t) (Some u) = LinksType t u
+LinksStated _ _ = ⊥
+
 pub record LinksPosition (locals : List (List ℕ)) (p : PositionParts) (q : Position) : Type 0 where
-  pub asserts : q.asserts ≡ []
+  pub asserts : LinksAsserts locals p.asserts q.asserts
   pub code : LinksCode locals p.code q.code
 
 abbrev pub LinksItems : List (List ℕ) → List ItemParts → List Position → Type 0
@@ -55,7 +82,7 @@ pub record LinksBody (b : BodyParts) (c : Body) : Type 0 where
   pub params : c.params ≡ length b.params
   pub locals : c.locals ≡ b.params ++ b.locals
   pub iters : c.iters ≡ b.iters
-  pub stated : c.stated ≡ None
+  pub stated : LinksStated b.stated c.stated
   pub regions : c.regions ≡ []
   pub few : length c.locals ≤ 255
   pub short : length c.positions ≤ 65535

@@ -14,7 +14,7 @@ use Rattle.hhbc_repo.specs.declared.repo.Property.{Property}
 use Rattle.hhbc_repo.specs.Linked.{Linked}
 use Rattle.hhbc_repo.specs.Bodies.{bodies, tree_of, properties_of}
 use Rattle.hhbc_repo.specs.Bare.{bare}
-use Rattle.hhbc_repo.specs.Form.{IsFirstForm}
+use Rattle.hhbc_repo.specs.Form.{IsFirstForm, IsSecondForm}
 use Rattle.hhbc_repo.specs.Shapes.{Types}
 use Rattle.hhbc_repo.specs.Outcome.{Why, Stuck}
 use Rattle.hhbc_repo.specs.Machine.{World, Frame, Returns, turn}
@@ -100,3 +100,15 @@ pub record IsFaithful (r a : Linked) : Type 0 where
 -- no run of a repository of the first form that keeps to its shapes is stuck
 abbrev pub FirstFormNeverSticks : Type 0
 FirstFormNeverSticks = (r : Linked) → IsFirstForm r → Types r → IsNeverStuck r
+
+-- the same of the second form, whether its assertions are tested or not
+abbrev pub SecondFormNeverSticks : Type 0
+SecondFormNeverSticks = (r : Linked) → IsSecondForm r → Types r → IsNeverStuck r
+
+-- without its assertions tested a repository runs as it does without them
+abbrev pub RunsAsBare : Type 0
+RunsAsBare = (r : Linked) (entry : List ℕ) (args : List Cell) (n : ℕ) → run r entry args n false ≡ run (bare r) entry args n false
+
+-- a repository of the second form, without its claims, is of the first form; it keeps to its shapes where the whole one does
+abbrev pub BareIsFirstForm : Type 0
+BareIsFirstForm = (r : Linked) → IsSecondForm r → IsFirstForm (bare r) × (Types r → Types (bare r))

@@ -9,7 +9,10 @@ mod repo;
 
 pub use body::{Assert, Body, Position, Region};
 pub use code::{Arm, Base, Code, Final, Imm, Instr, MemberKey, MemberSeq};
-pub use laws::{first_form_never_sticks, types_where_it_walks};
+pub use laws::{
+    bare_is_first_form, first_form_never_sticks, runs_as_bare, second_form_never_sticks,
+    types_where_asserted_walks, types_where_it_walks,
+};
 pub use parts::{
     ArmParts, AssertParts, BaseParts, BodyParts, ClassParts, CodeParts, FinalParts, ImmParts,
     InstrParts, ItemParts, MemberKeyParts, MemberSeqParts, PositionParts, PropertyParts, TypeParts,

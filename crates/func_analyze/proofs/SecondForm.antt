@@ -1,0 +1,49 @@
+-- Repositories of the second form, by what they are without their claims.
+use Rattle.std.proofs.Common.{◌≡◌, ℕ, suc, sym, ◌∙◌, ap, subst, List, [], ◌∷◌, map}
+use Rattle.hhbc_repo.specs.Linked.{Linked}
+use Rattle.hhbc_repo.specs.declared.body.Position.{Position}
+use Rattle.hhbc_repo.specs.Bare.{bare, bare_position}
+use Rattle.hhbc_repo.specs.Truth.{IsFaithful}
+use Rattle.hhbc_repo.proofs.Steady.{second_form_never_sticks}
+use Rattle.hhbc_repo.proofs.Stripped.{bare_again, bare_form, runs_as_bare, bare_is_first_form}
+use Rattle.func_analyze.specs.Rounds.{IsFacts, AreLeast}
+use Rattle.func_analyze.specs.Annotated.{annotated, IsAnnotated}
+use Rattle.func_analyze.specs.Chain.{annotated_by}
+use Rattle.func_analyze.specs.Laws.{AreWords, BareChainAnnotates, SecondIsFaithful, SecondIsUnique}
+use Rattle.func_analyze.proofs.ChainAnnotated.{chain_annotates}
+use Rattle.func_analyze.proofs.Faithful.{annotated_is_faithful}
+use Rattle.func_analyze.proofs.Unique.{annotated_is_unique}
+
+-- annotation asks only for what is left without claims
+same_bare : (n : ℕ) (r s a : Linked) → bare r ≡ bare s → IsAnnotated n r a → IsAnnotated n s a
+same_bare n r s a h w = record {
+  facts = w.facts;
+  after = subst (λ (x : Linked). IsFacts x n w.facts) h w.after;
+  tables = w.tables;
+  least = subst (λ (x : Linked). AreLeast x w.facts w.tables) h w.least;
+  is = w.is ∙ ap (λ (x : Linked). annotated x w.facts w.tables) h;
+}
+
+pub bare_chain_annotates : BareChainAnnotates
+bare_chain_annotates r form n =
+    same_bare (suc n) (bare r) r (annotated_by (bare r)) (bare_again r) (chain_annotates (bare r) (bare_is_first_form r form).0 n)
+
+pub second_is_faithful : SecondIsFaithful
+second_is_faithful r a form types n w =
+    let first = bare_is_first_form r form in
+    let f : IsFaithful (bare r) a =
+    annotated_is_faithful (bare r) a first.0 (first.1 types) n (same_bare (suc n) r (bare r) a (sym (bare_again r)) w) in
+    record {
+      runs = λ entry args n legal. f.runs entry args n legal ∙ sym (runs_as_bare r entry args n);
+      claims = f.claims;
+      never = (second_form_never_sticks r form types, f.never.1);
+    }
+
+bare_words : (ps : List Position) → AreWords ps → AreWords (map bare_position ps)
+bare_words [] h = tt
+bare_words (p ∷ ps) h = (h.0, bare_words ps h.1)
+
+pub second_is_unique : SecondIsUnique
+unfolding bare_form
+second_is_unique r a form words n w =
+    annotated_is_unique (bare r) a (bare_form r form) (bare_words form.body.positions words) n (same_bare (suc n) r (bare r) a (sym (bare_again r)) w)
