@@ -1,11 +1,12 @@
 -- Repositories of the second form, by what they are without their claims.
 use Rattle.std.proofs.Common.{◌≡◌, ℕ, suc, sym, ◌∙◌, ap, subst, List, [], ◌∷◌, map}
 use Rattle.hhbc_repo.specs.Linked.{Linked}
+use Rattle.hhbc_repo.specs.declared.body.Body.{Body}
 use Rattle.hhbc_repo.specs.declared.body.Position.{Position}
-use Rattle.hhbc_repo.specs.Bare.{bare, bare_position}
+use Rattle.hhbc_repo.specs.Bare.{bare, bare_body, bare_position}
 use Rattle.hhbc_repo.specs.Truth.{IsFaithful}
 use Rattle.hhbc_repo.proofs.Steady.{second_form_never_sticks}
-use Rattle.hhbc_repo.proofs.Stripped.{bare_again, bare_form, runs_as_bare, bare_is_first_form}
+use Rattle.hhbc_repo.proofs.Stripped.{bare_again, runs_as_bare, bare_is_first_form}
 use Rattle.func_analyze.specs.Rounds.{IsFacts, AreLeast}
 use Rattle.func_analyze.specs.Annotated.{annotated, IsAnnotated}
 use Rattle.func_analyze.specs.Chain.{annotated_by}
@@ -44,6 +45,9 @@ bare_words [] h = tt
 bare_words (p ∷ ps) h = (h.0, bare_words ps h.1)
 
 pub second_is_unique : SecondIsUnique
-unfolding bare_form
 second_is_unique r a form words n w =
-    annotated_is_unique (bare r) a (bare_form r form) (bare_words form.body.positions words) n (same_bare (suc n) r (bare r) a (sym (bare_again r)) w)
+    let first = (bare_is_first_form r form).0 in
+    let e : first.body ∷ [] ≡ bare_body form.body ∷ [] = sym first.functions ∙ ap (λ (bs : List Body). map bare_body bs) form.functions in
+    let same : first.body ≡ bare_body form.body = cc in
+    annotated_is_unique (bare r) a first (subst (λ (b : Body). AreWords b.positions) (sym same) (bare_words form.body.positions words)) n
+    (same_bare (suc n) r (bare r) a (sym (bare_again r)) w)

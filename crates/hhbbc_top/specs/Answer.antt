@@ -1,5 +1,5 @@
 -- What each status says, and when it comes.
-use Rattle.std.specs.Prelude.{◌≡◌, ◌≢◌, ◌⊎◌, ℕ, List, [], ◌∷◌, Option, Result, Ok, Err, IfSome, codes}
+use Rattle.std.specs.Prelude.{◌≡◌, ◌≢◌, ◌⊎◌, ℕ, List, [], ◌∷◌, Option, Some, Result, Ok, Err, IfSome, codes}
 use Rattle.std.specs.Io.KnownBytes.{IsAtEnd}
 use Rattle.hh_io.specs.Counts.{Rose}
 use Rattle.hh_io.specs.Sources.{IsLonger, IsWithin}
