@@ -76,7 +76,7 @@ answer-to left rest before now bytes (Err s) h e w f (inr a) =
 both : (left : Option (List ℕ)) (bytes : List ℕ) (P : List ℕ → Type 0) → left ≡ Some bytes → IfSome left P → P bytes
 both left bytes P e h = rw e at h
 
--- the other statuses aren't those of a text of the first form
+-- the other statuses aren't those of a text that is read
 pub accepted : (words : List (List ℕ)) (left rest : Option (List ℕ)) (before now : ℕ) (s : Status) (out : List ℕ)
     → IsAnswer words left rest before now s out → Accepts words left s
 accepted words left rest before now Done out a bytes repo w e f = inl refl

@@ -9,7 +9,7 @@ ghost use Rattle.hhbbc_top.specs.Answer as answers;
 ghost use Rattle.hhbbc_top.specs.Forms.{annotated_text};
 
 use crate::annotation::annotated;
-use crate::form::{Main, read_text_has_words, read, reading_is_complete, reading_is_sound};
+use crate::form::{Main, read, read_text_has_words, reading_is_complete, reading_is_sound};
 use crate::reader::ReadFault;
 use crate::status::{Status, line_of};
 use crate::writer::text_of;
