@@ -1,7 +1,6 @@
-use Rattle.std.proofs.Common.{◌≡◌, ◌≢◌, ◌∙◌, ap, List, Option, MatchOption, sym, subst}
+use Rattle.std.proofs.Common.{◌≡◌, ◌≢◌, ◌∙◌, Option, MatchOption, sym, subst}
 use Rattle.hhbc_ops.specs.declared.words.IncDecOp.{IncDecOp}
 use Rattle.hhbc_ops.specs.Words.{inc_dec_name}
-use Rattle.hhbc_ops.specs.Names.{first_named}
 use Rattle.hhbc_ops.proofs.Names.{inc_dec_only, inc_dec_found}
 use Rattle.hhbc_ops.proofs.word_names.inc_dec_named.Goals as goal
 

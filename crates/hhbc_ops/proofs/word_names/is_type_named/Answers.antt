@@ -1,7 +1,6 @@
-use Rattle.std.proofs.Common.{◌≡◌, ◌≢◌, ◌∙◌, ap, List, Option, MatchOption, sym, subst}
+use Rattle.std.proofs.Common.{◌≡◌, ◌≢◌, ◌∙◌, Option, MatchOption, sym, subst}
 use Rattle.hhbc_ops.specs.declared.words.IsTypeOp.{IsTypeOp}
 use Rattle.hhbc_ops.specs.Words.{is_type_name}
-use Rattle.hhbc_ops.specs.Names.{first_named}
 use Rattle.hhbc_ops.proofs.Names.{is_type_only, is_type_found}
 use Rattle.hhbc_ops.proofs.word_names.is_type_named.Goals as goal
 

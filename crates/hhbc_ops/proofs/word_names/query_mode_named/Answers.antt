@@ -1,7 +1,6 @@
-use Rattle.std.proofs.Common.{◌≡◌, ◌≢◌, ◌∙◌, ap, List, Option, MatchOption, sym, subst}
+use Rattle.std.proofs.Common.{◌≡◌, ◌≢◌, ◌∙◌, Option, MatchOption, sym, subst}
 use Rattle.hhbc_ops.specs.declared.words.QueryMode.{QueryMode}
 use Rattle.hhbc_ops.specs.Words.{query_mode_name}
-use Rattle.hhbc_ops.specs.Names.{first_named}
 use Rattle.hhbc_ops.proofs.Names.{query_mode_only, query_mode_found}
 use Rattle.hhbc_ops.proofs.word_names.query_mode_named.Goals as goal
 

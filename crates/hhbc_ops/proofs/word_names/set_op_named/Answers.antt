@@ -1,7 +1,6 @@
-use Rattle.std.proofs.Common.{◌≡◌, ◌≢◌, ◌∙◌, ap, List, Option, MatchOption, sym, subst}
+use Rattle.std.proofs.Common.{◌≡◌, ◌≢◌, ◌∙◌, Option, MatchOption, sym, subst}
 use Rattle.hhbc_ops.specs.declared.words.SetOpOp.{SetOpOp}
 use Rattle.hhbc_ops.specs.Words.{set_op_name}
-use Rattle.hhbc_ops.specs.Names.{first_named}
 use Rattle.hhbc_ops.proofs.Names.{set_op_only, set_op_found}
 use Rattle.hhbc_ops.proofs.word_names.set_op_named.Goals as goal
 
