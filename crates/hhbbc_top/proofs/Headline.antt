@@ -11,7 +11,7 @@ use Rattle.hhbbc_top.specs.declared.form.Main.{Main}
 use Rattle.hhbbc_top.specs.declared.status.Status.{Status}
 use Rattle.hhbbc_top.specs.declared.status.Status.TheVariants.{Done, Usage, TooLong, NoMemory, NotYet, ReadFault, WriteFault}
 use Rattle.hhbbc_top.specs.Answer.{analyze, status_of, Accepts, IsAnswer, IsAnnotatedText, IsOtherText}
-use Rattle.hhbbc_top.specs.ReadText.{limit, IsReadText, ReadingIsSound, ReadingIsComplete, ReadTextHasWords}
+use Rattle.hhbbc_top.specs.ReadText.{limit, ReadingIsSound, ReadingIsComplete, ReadTextHasWords}
 use Rattle.hhbbc_top.specs.Forms.{position_of, bare_of, repo_of, bare_repo_of, annotated_text}
 use Rattle.hhbbc_top.specs.declared.form.Line.{Line}
 use Rattle.hhbc_repo.specs.declared.body.Position.{Position}

@@ -1,2 +1,2 @@
 mod Finding
-mod Names
+pub mod Names

@@ -11,22 +11,22 @@ use Rattle.hhbc_ops.specs.declared.words.QueryMode.TheVariants as modes
 use Rattle.hhbc_ops.specs.declared.words.IsTypeOp.{IsTypeOp}
 use Rattle.hhbc_ops.specs.declared.words.IsTypeOp.TheVariants as types
 use Rattle.hhbc_ops.specs.Names.{first_named}
-use Rattle.hhbc_ops.specs.Ops.{op_name, of_length}
+use Rattle.hhbc_ops.specs.Ops.{op_name, of_length, op_called}
 use Rattle.hhbc_ops.specs.Words.{set_op_name, inc_dec_name, query_mode_name, is_type_name}
 use Rattle.hhbc_ops.specs.Laws.{NamesDiffer}
 use Rattle.hhbc_ops.proofs.Finding as finding
 
-abbrev pub ops_for : List ℕ → List Op
+abbrev ops_for : List ℕ → List Op
 ops_for name = of_length (length name)
 
 op_listed : (op : Op) → first_named op_name (ops_for (op_name op)) (op_name op) ≡ Some op
 op_listed ops.Nop = refl
 op_listed _ = refl
 
-pub op_found : (op : Op) (name : List ℕ) → op_name op ≡ name → first_named op_name (ops_for name) name ≡ Some op
+pub op_found : (op : Op) (name : List ℕ) → op_name op ≡ name → op_called name ≡ Some op
 op_found = finding.each_named op_name ops_for op_listed
 
-pub op_only : (name : List ℕ) → MatchOption (first_named op_name (ops_for name) name) ((op : Op) → op_name op ≢ name) (λ op. op_name op ≡ name)
+pub op_only : (name : List ℕ) → MatchOption (op_called name) ((op : Op) → op_name op ≢ name) (λ op. op_name op ≡ name)
 op_only = finding.only_named op_name ops_for op_listed
 
 pub names_differ : NamesDiffer

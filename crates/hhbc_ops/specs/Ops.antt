@@ -1,10 +1,11 @@
 -- The table of instructions: names, kinds of operands, what may raise an exception, and what has a next position.
-use Rattle.std.specs.Prelude.{◌≡◌, ℕ, Bool, true, false, ◌==◌, List, [], ◌∷◌, if◌then◌else◌, codes}
+use Rattle.std.specs.Prelude.{◌≡◌, ℕ, Bool, true, false, ◌==◌, List, [], ◌∷◌, length, Option, if◌then◌else◌, codes}
 use Rattle.hhbc_ops.specs.declared.op.Op.{Op}
 use Rattle.hhbc_ops.specs.declared.op.Op.TheVariants.{Nop, Null, True, False, Int, String, NullUninit, PopC, PopU, Dup, PopL, SetL, CGetL, CGetQuietL, CGetL2, PushL, UnsetL, SetOpL, IncDecL, Concat, Add, Sub, Mul, Mod, BitAnd, BitOr, BitXor, Shl, Shr, Same, NSame, Lt, Lte, Gt, Gte, Cmp, BitNot, CastInt, CastString, Not, CastBool, IsTypeC, IsTypeL, InstanceOfD, NewVec, NewKeysetArray, NewDictArray, AddElemC, AddNewElemC, Jmp, JmpZ, JmpNZ, Switch, SSwitch, RetC, Throw, Fatal, ClsCnsD, FCallFuncD, FCallObjMethodD, FCallClsMethodD, NewObjD, FCallCtor, LockObj, This, BareThis, CheckThis, IterInit, IterNext, IterFree, VerifyParamType, VerifyRetTypeC, Print}
 use Rattle.hhbc_ops.specs.declared.table.Row.{Row as Entry}
 use Rattle.hhbc_ops.specs.declared.words.ImmKind.{ImmKind}
 use Rattle.hhbc_ops.specs.declared.words.ImmKind.TheVariants as kinds
+use Rattle.hhbc_ops.specs.Names.{first_named}
 
 -- a row: the name of an instruction as texts spell it, the kinds of its operands in order, whether it may raise an
 -- exception, and whether the position behind it may come next
@@ -133,3 +134,7 @@ of_length n =
     else if n == 14 then NewKeysetArray ∷ VerifyRetTypeC ∷ []
     else if n == 15 then FCallObjMethodD ∷ FCallClsMethodD ∷ VerifyParamType ∷ []
     else []
+
+-- the instruction of a name
+abbrev pub op_called : List ℕ → Option Op
+op_called name = first_named op_name (of_length (length name)) name
