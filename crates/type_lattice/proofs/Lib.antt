@@ -1,4 +1,8 @@
 pub mod Antisymmetry
+pub mod Chains
+pub mod Cycles
+pub mod Descent
+pub mod Made
 pub mod Members
 pub mod NeverLaws
 pub mod OrderLaws

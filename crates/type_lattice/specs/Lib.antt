@@ -5,4 +5,5 @@ pub mod Order
 pub mod Proper
 pub mod TypeText
 pub mod Types
+pub mod Walks
 pub mod Whole

@@ -1,12 +1,14 @@
 //! Types of values, after the design comments of HHBBC: one part for each kind of value.
 #![tactic(auto)]
 
+mod class_tree;
 mod laws;
 mod literal;
 mod order;
 mod text;
 mod types;
 
+pub use class_tree::ClassTree;
 pub use laws::{never_is_never, whole_is_above_cell};
 pub use literal::of_literal;
 pub use order::le;
