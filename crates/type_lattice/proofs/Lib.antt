@@ -2,8 +2,11 @@ pub mod Antisymmetry
 pub mod Chains
 pub mod Cycles
 pub mod Descent
+pub mod JoinLaws
+pub mod JoinProper
 pub mod Made
 pub mod Members
 pub mod NeverLaws
 pub mod OrderLaws
+pub mod RankLaws
 pub mod WholeLaws

@@ -2,6 +2,8 @@
 #![tactic(auto)]
 
 mod class_tree;
+mod constraint;
+mod joins;
 mod laws;
 mod literal;
 mod order;
@@ -9,6 +11,8 @@ mod text;
 mod types;
 
 pub use class_tree::ClassTree;
+pub use constraint::keep;
+pub use joins::join;
 pub use laws::{never_is_never, whole_is_above_cell};
 pub use literal::of_literal;
 pub use order::le;
