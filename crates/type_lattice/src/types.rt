@@ -85,6 +85,19 @@ impl Leaf {
         dict: false,
         keyset: false,
     };
+
+    /// What holds nothing.
+    pub const NEVER: Leaf = Leaf {
+        null: false,
+        no: false,
+        yes: false,
+        int: IntPart::No,
+        str: StrPart::No,
+        obj: ObjPart::No,
+        vec: false,
+        dict: false,
+        keyset: false,
+    };
 }
 
 impl HType {
@@ -100,6 +113,12 @@ impl HType {
         vec: None,
         dict: None,
         keyset: None,
+    };
+
+    /// The type of what isn't there yet.
+    pub const UNINIT: HType = HType {
+        uninit: true,
+        ..HType::NEVER
     };
 
     /// The type of all cells.
