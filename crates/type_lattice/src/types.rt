@@ -1,3 +1,6 @@
+ghost use Rattle.std.specs.Prelude.{◌≡◌};
+ghost use Rattle.type_lattice.specs.Types.{short_bytes};
+
 /// Which ints a type has.
 #[derive(Clone, Copy, Debug, PartialEq, Eq)]
 pub enum IntPart {
@@ -11,6 +14,20 @@ pub enum IntPart {
 pub struct Short {
     pub len: u8,
     pub bytes: [u8; 32],
+}
+
+impl Short {
+    /// The bytes of the string.
+    pub fn as_bytes(&self) -> &[u8]
+        ensures { result.now ≡ short_bytes self.now }
+    {
+        let len = self.len as usize;
+        if len < 32 {
+            &self.bytes[..len]
+        } else {
+            &self.bytes
+        }
+    }
 }
 
 /// Which strings a type has.
