@@ -65,6 +65,7 @@ clean_op ops.PopC is b f w = clean_cell w f.stack _ (λ c rest. refl)
 clean_op ops.SetL is b f w = clean_cell w f.stack _ (λ c rest. refl)
 clean_op ops.CGetL is b f w = clean_local w (slice_get f.locals (local_of is)) (name_or_none (slice_get b.locals (local_of is))) _ (λ c. refl)
 clean_op ops.RetC is b f w = clean_cell w f.stack _ (λ c rest. refl)
+clean_op _ is b f w = refl
 
 clean_code : (o : Option Code) (b : Body) (f : Frame) (w : World) → Clean w (perform_code o b f w)
 clean_code None b f w = refl

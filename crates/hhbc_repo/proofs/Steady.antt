@@ -88,8 +88,8 @@ keeps_op count ops.SetL is b f w i h l d =
 keeps_op count ops.CGetL (imms.Local n ∷ []) b f w i h l d =
     keeps_local f (plain ops.CGetL (imms.Local n ∷ [])) w f.locals n (name_or_none (slice_get b.locals n)) _ (omega (arith, i, l))
     (λ x. (refl, refl, h, omega arith, refl, refl))
-keeps_op count ops.CGetL _ b f w i h l d = absurd i
 keeps_op count ops.RetC is b f w i h l d = keeps_cell f (plain ops.RetC is) w f.stack _ h d (λ x rest k e. tt)
+keeps_op count _ is b f w i h l d = absurd i
 
 keeps_code : (count : ℕ) (c : Code) (b : Body) (f : Frame) (w : World) → FitsCode count c → AllHold f.stack → length f.locals ≡ count
     → length (pops c) ≤ length f.stack → Keeps f c (perform_code (Some c) b f w)
