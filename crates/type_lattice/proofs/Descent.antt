@@ -2,7 +2,8 @@
 use Rattle.std.proofs.Common.{◌≡◌, ℕ, zero, suc, [], length, Option, Some, None, false, refl, ap, ◌⊎◌, inl, inr, sym, ◌∙◌, subst, true}
 use Rattle.std.specs.Prelude.{IsTrue}
 use Rattle.type_lattice.specs.Classes.{Tree, parent_of, climb, climb_on, Descends, IsNearest, nearest, Forest, chain_on, chain_within, has, below}
-use Rattle.type_lattice.proofs.Chains.{has_cases, below_refl, below_up_one, nearest_above, nearest_least}
+use Rattle.type_lattice.proofs.OrderLaws.{below-refl}
+use Rattle.type_lattice.proofs.Chains.{has_cases, below_up_one, nearest_above, nearest_least}
 
 module _ (t : Tree) (forest : Forest t) where
   steps_within : (n a b : ℕ) → IsTrue (has b (chain_within n t a)) → (m : ℕ) × (climb m t a ≡ Some b)
@@ -25,7 +26,7 @@ module _ (t : Tree) (forest : Forest t) where
   descent a b h = steps_within (length t) a b h
 
   from_steps : (m a b : ℕ) → climb m t a ≡ Some b → IsTrue (below t a b)
-  from_steps zero a b e = let k : a ≡ b = cc in rw k (below_refl t forest b)
+  from_steps zero a b e = let k : a ≡ b = cc in rw k (below-refl t b)
   from_steps (suc m) a b e = go (parent_of t a) refl (from_steps m)
     where
       go : (o : Option ℕ) → parent_of t a ≡ o → ((a b : ℕ) → climb m t a ≡ Some b → IsTrue (below t a b)) → IsTrue (below t a b)
