@@ -5,23 +5,24 @@ use Rattle.type_lattice.specs.Classes.{Tree, Forest}
 use Rattle.type_lattice.specs.Order.{Le}
 use Rattle.type_lattice.specs.Proper.{IsJoin}
 use Rattle.type_lattice.specs.Join.{join}
-use Rattle.type_lattice.specs.Laws.{LeIsOrder, JoinIsLeastAbove, MembersStay, LiteralIsLeast, KeepIsGreatestBelow, HeightIsBounded, DepthIsBounded}
+use Rattle.type_lattice.specs.Laws.{ClassesAreOrdered, LeIsOrder, JoinIsLeastAbove, MembersStay, LiteralIsLeast, LiteralIsProper, KeepIsGreatestBelow, HeightIsBounded, DepthIsBounded}
 use Rattle.type_lattice.proofs.Chains.{below_trans, below_antisym}
-use Rattle.type_lattice.proofs.OrderLaws.{Transitive, Le-refl, Le-trans}
+use Rattle.type_lattice.proofs.OrderLaws.{Le-refl, Le-trans}
 use Rattle.type_lattice.proofs.Antisymmetry.{Le-antisym}
 use Rattle.type_lattice.proofs.Members.{is_member-le}
+use Rattle.type_lattice.proofs.Descent.{descent, ascent, nearest_is}
 use Rattle.type_lattice.proofs.JoinLaws.{join_left, join_right, join_least}
 use Rattle.type_lattice.proofs.JoinProper.{join_proper}
 use Rattle.type_lattice.proofs.KeepLaws.{keep_narrower, keep_passes, keep_greatest, keep_rises, keep_proper}
 use Rattle.type_lattice.proofs.Kept.{members_of_both}
-use Rattle.type_lattice.proofs.LiteralLaws.{literal_has, literal_least}
+use Rattle.type_lattice.proofs.LiteralLaws.{literal_has, literal_least, literal_proper}
 use Rattle.type_lattice.proofs.RankLaws.{rank_strict, rank_most, chain_is_within}
 
-higher : (t : Tree) → Forest t → Transitive t
-higher t forest a b c h k = below_trans t forest a b c h k
+pub classes_are_ordered : ClassesAreOrdered
+classes_are_ordered t forest = record { descent = λ a b. (descent t forest a b, ascent t forest a b); common = nearest_is t forest }
 
 pub le_is_order : LeIsOrder
-le_is_order t forest = record { same = Le-refl t; onward = Le-trans t (higher t forest); equal = Le-antisym t (below_antisym t forest) }
+le_is_order t forest = record { same = Le-refl t; onward = Le-trans t (below_trans t forest); equal = Le-antisym t (below_antisym t forest) }
 
 joined : (t : Tree) → Forest t → (a b : HType) → IsJoin t (λ s. (s ≡ a) ⊎ (s ≡ b)) (join t a b)
 joined t forest a b = record { above = above; least = λ u p f. join_least t forest a b u (f a (inl refl)) (f b (inr refl)) }
@@ -40,7 +41,10 @@ join_is_least_above t forest = record {
 }
 
 pub members_stay : MembersStay
-members_stay t forest heap s a b h m = is_member-le t (higher t forest) heap s a b h m
+members_stay t forest heap s a b h m = is_member-le t (below_trans t forest) heap s a b h m
+
+pub literal_is_proper : LiteralIsProper
+literal_is_proper t c h k = literal_proper t c k
 
 pub literal_is_least : LiteralIsLeast
 literal_is_least t heap c h = record { has = literal_has t heap c h; least = literal_least t heap c h }

@@ -1,17 +1,25 @@
 -- What is claimed of types, over each tree without strays and cycles.
-use Rattle.std.specs.Prelude.{◌≡◌, ◌≤◌, ◌<◌, ◌⊎◌, ◌&&◌, ℕ, true, length}
+use Rattle.std.specs.Prelude.{◌≡◌, ◌≤◌, ◌<◌, ◌⊎◌, ◌↔◌, ◌&&◌, ℕ, true, length}
 use Rattle.hack_values.specs.declared.cell.Cell.{Cell}
 use Rattle.hack_values.specs.declared.cell.Slot.{Slot}
 use Rattle.hack_values.specs.declared.cell.Slot.TheVariants as slots
 use Rattle.type_lattice.specs.declared.types.HType.{HType}
-use Rattle.type_lattice.specs.Classes.{Tree, Forest}
+use Rattle.type_lattice.specs.Classes.{Tree, Forest, Descends, below, nearest, IsNearest}
 use Rattle.type_lattice.specs.Order.{Le}
-use Rattle.type_lattice.specs.Proper.{IsProper, IsJoin}
+use Rattle.type_lattice.specs.Proper.{ProperScalar, IsProper, IsJoin}
 use Rattle.type_lattice.specs.Types.{literal, IsLiteral}
 use Rattle.type_lattice.specs.Member.{Heap, is_member}
 use Rattle.type_lattice.specs.Join.{join}
 use Rattle.type_lattice.specs.Keep.{IsConstraint, keep}
 use Rattle.type_lattice.specs.Rank.{IsWithin, rank, highest}
+
+-- the test of descent, and the nearest class that two classes have in common
+pub record IsOrdered (tree : Tree) : Type 0 where
+  pub descent : (a b : ℕ) → (below tree a b ≡ true) ↔ Descends tree a b
+  pub common : (a b : ℕ) → IsNearest tree a b (nearest tree a b)
+
+abbrev pub ClassesAreOrdered : Type 0
+ClassesAreOrdered = (tree : Tree) → Forest tree → IsOrdered tree
 
 -- the order is reflexive and transitive, and two types below each other are equal
 pub record IsOrder (tree : Tree) : Type 0 where
@@ -43,6 +51,10 @@ MembersStay =
 pub record IsLeastWith (tree : Tree) (heap : Heap) (c : Cell) : Type 0 where
   pub has : is_member tree heap (slots.Cell c) (literal c) ≡ true
   pub least : (t : HType) → IsProper tree t → is_member tree heap (slots.Cell c) t ≡ true → Le tree (literal c) t
+
+-- the type of a literal whose number or bytes are in range is proper
+abbrev pub LiteralIsProper : Type 0
+LiteralIsProper = (tree : Tree) (c : Cell) → IsLiteral c → ProperScalar c → IsProper tree (literal c)
 
 abbrev pub LiteralIsLeast : Type 0
 LiteralIsLeast = (tree : Tree) (heap : Heap) (c : Cell) → IsLiteral c → IsLeastWith tree heap c

@@ -1,8 +1,15 @@
 //! Laws of the definitions, each the contract of a function that does nothing.
 
-ghost use Rattle.type_lattice.specs.Laws.{LeIsOrder, JoinIsLeastAbove, MembersStay, LiteralIsLeast, KeepIsGreatestBelow, HeightIsBounded, DepthIsBounded};
+ghost use Rattle.type_lattice.specs.Laws.{ClassesAreOrdered, LeIsOrder, JoinIsLeastAbove, MembersStay, LiteralIsLeast, LiteralIsProper, KeepIsGreatestBelow, HeightIsBounded, DepthIsBounded};
 ghost use Rattle.type_lattice.specs.Never.{NeverIsNever};
 ghost use Rattle.type_lattice.specs.Whole.{WholeIsAboveCell};
+
+/// The test of descent says whether some number of steps up lead from the one class to the other. The nearest
+/// class of two is one that both descend from or are, and descends from or is each other such class; there is
+/// none only where the two have none in common.
+pub fn classes_are_ordered()
+    ensures { ClassesAreOrdered }
+{}
 
 /// The order is one: reflexive, transitive, and two types below each other are equal.
 pub fn le_is_order()
@@ -22,6 +29,11 @@ pub fn members_stay()
 /// A literal is a member of its type, and that is below each proper type that has it as a member.
 pub fn literal_is_least()
     ensures { LiteralIsLeast }
+{}
+
+/// The type of a literal is proper.
+pub fn literal_is_proper()
+    ensures { LiteralIsProper }
 {}
 
 /// What a constraint keeps of a type is the greatest type below both. It rises with the type, and its members
