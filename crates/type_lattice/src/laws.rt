@@ -11,12 +11,14 @@ pub fn classes_are_ordered()
     ensures { ClassesAreOrdered }
 {}
 
-/// The order is one: reflexive, transitive, and two types below each other are equal.
+/// The order is one: reflexive, transitive, and two types below each other are equal. The type without members is
+/// below all.
 pub fn le_is_order()
     ensures { LeIsOrder }
 {}
 
-/// The join of two types is the least of all types that are above both, proper or not; that of proper types is proper.
+/// The join of two types is the least of all types that are above both, proper or not. It rises with both, and that
+/// of proper types is proper.
 pub fn join_is_least_above()
     ensures { JoinIsLeastAbove }
 {}
@@ -31,7 +33,7 @@ pub fn literal_is_least()
     ensures { LiteralIsLeast }
 {}
 
-/// The type of a literal is proper.
+/// The type of a literal is proper, where its number or its bytes are in range.
 pub fn literal_is_proper()
     ensures { LiteralIsProper }
 {}
