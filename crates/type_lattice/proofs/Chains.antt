@@ -5,6 +5,7 @@ use Rattle.std.proofs.lemmas.Bool.{eqb-true, eq-eqb, ne_eqb}
 use Rattle.type_lattice.specs.Classes.{Tree, parent_of, Forest, chain_on, chain_within, chain, has, below, first, nearest}
 use Rattle.type_lattice.specs.Walks.{no_parent, ends}
 use Rattle.type_lattice.proofs.Cycles.{forest_ended}
+use Rattle.type_lattice.proofs.OrderLaws.{Transitive, below-refl}
 
 module _ (t : Tree) where
   -- more steps change nothing where the way up ends
@@ -80,10 +81,7 @@ module _ (t : Tree) where
     from_part a b front e = let r = chain_head b in
         rw (e, r.1) (has_behind b front (b ∷ r.0) (has_first b b r.0 refl))
 
-    pub below_refl : (a : ℕ) → IsTrue (below t a a)
-    below_refl a = from_part a a [] refl
-
-    pub below_trans : (a b c : ℕ) → IsTrue (below t a b) → IsTrue (below t b c) → IsTrue (below t a c)
+    pub below_trans : Transitive t
     below_trans a b c h k = let x = part a b h in let y = part b c k in from_part a c (x.0 ++ y.0) (rw (x.1, y.1) (sym (append_assoc x.0 y.0 (chain t c))))
 
     head_same : (a b : ℕ) → chain t a ≡ chain t b → a ≡ b
@@ -132,7 +130,7 @@ module _ (t : Tree) where
     first_least p zero a e q h = go (has_cases e a [] h)
       where
         go : (a ≡ e) ⊎ IsTrue false → (x : ℕ) × (first p (a ∷ []) ≡ Some x) × IsTrue (below t x e)
-        go (inl k) = let m : p a ≡ true = rw k q in (a, rw m refl, rw k (below_refl e))
+        go (inl k) = let m : p a ≡ true = rw k q in (a, rw m refl, rw k (below-refl t e))
         go (inr k) = cc
     first_least p (suc n) a e q h = go (p a) refl (first_least p n)
       where
@@ -167,7 +165,7 @@ module _ (t : Tree) where
   module _ (forest : Forest t) where
     -- what a walk up knows
     pub below_here : (a b : ℕ) → a ≡ b → below t a b ≡ true
-    below_here a b e = rw e (below_refl forest b)
+    below_here a b e = rw e (below-refl t b)
 
     pub below_root : (a b : ℕ) → a ≢ b → parent_of t a ≡ None → below t a b ≡ false
     below_root a b n e = rw (chain_root forest a e) (let k : (b == a) ≡ false = ne_eqb b a (λ w. n (sym w)) in rw k refl)

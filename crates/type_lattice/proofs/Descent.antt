@@ -1,8 +1,9 @@
 -- A class is below another exactly where some number of steps up lead there.
-use Rattle.std.proofs.Common.{◌≡◌, ℕ, zero, suc, [], length, Option, Some, None, false, refl, ap, ◌⊎◌, inl, inr}
+use Rattle.std.proofs.Common.{◌≡◌, ℕ, zero, suc, [], length, Option, Some, None, false, refl, ap, ◌⊎◌, inl, inr, sym, ◌∙◌, subst, true}
 use Rattle.std.specs.Prelude.{IsTrue}
-use Rattle.type_lattice.specs.Classes.{Tree, parent_of, climb, climb_on, Descends, Forest, chain_on, chain_within, has, below}
-use Rattle.type_lattice.proofs.Chains.{has_cases, below_refl, below_up_one}
+use Rattle.type_lattice.specs.Classes.{Tree, parent_of, climb, climb_on, Descends, IsNearest, nearest, Forest, chain_on, chain_within, has, below}
+use Rattle.type_lattice.proofs.OrderLaws.{below-refl}
+use Rattle.type_lattice.proofs.Chains.{has_cases, below_up_one, nearest_above, nearest_least}
 
 module _ (t : Tree) (forest : Forest t) where
   steps_within : (n a b : ℕ) → IsTrue (has b (chain_within n t a)) → (m : ℕ) × (climb m t a ≡ Some b)
@@ -25,7 +26,7 @@ module _ (t : Tree) (forest : Forest t) where
   descent a b h = steps_within (length t) a b h
 
   from_steps : (m a b : ℕ) → climb m t a ≡ Some b → IsTrue (below t a b)
-  from_steps zero a b e = let k : a ≡ b = cc in rw k (below_refl t forest b)
+  from_steps zero a b e = let k : a ≡ b = cc in rw k (below-refl t b)
   from_steps (suc m) a b e = go (parent_of t a) refl (from_steps m)
     where
       go : (o : Option ℕ) → parent_of t a ≡ o → ((a b : ℕ) → climb m t a ≡ Some b → IsTrue (below t a b)) → IsTrue (below t a b)
@@ -34,3 +35,17 @@ module _ (t : Tree) (forest : Forest t) where
 
   pub ascent : (a b : ℕ) → Descends t a b → IsTrue (below t a b)
   ascent a b h = from_steps h.0 a b h.1
+
+  pub nearest_is : (a b : ℕ) → IsNearest t a b (nearest t a b)
+  nearest_is a b = go (nearest t a b) refl
+    where
+      go : (o : Option ℕ) → nearest t a b ≡ o → IsNearest t a b o
+      go None e = λ c h k. let r = nearest_least t forest a b c (ascent a c h) (ascent b c k) in let z : None ≡ Some r.0 = sym e ∙ r.1 in absurd (cc)
+      go (Some c) e =
+          let n = nearest_above t forest a b c e in (
+            descent a c n.0,
+            descent b c n.1,
+            λ d h k. let r = nearest_least t forest a b d (ascent a d h) (ascent b d k) in
+                let z : Some c ≡ Some r.0 = sym e ∙ r.1 in
+                let y : r.0 ≡ c = cc in descent c d (subst (λ x. below t x d ≡ true) y r.2),
+          )

@@ -17,7 +17,7 @@ use Rattle.type_lattice.specs.Classes.{Tree, nearest, below, Forest}
 use Rattle.type_lattice.specs.Order.{FlagLe, IntLe, StrLe, ObjLe, LeafLe, PartLe, EntryLe, Le}
 use Rattle.type_lattice.specs.Join.{int_join, short_eq, str_join, sub_or_any, obj_join, leaf_join, part_join, entry_join, join}
 use Rattle.type_lattice.proofs.Chains.{nearest_above, nearest_least}
-use Rattle.type_lattice.proofs.OrderLaws.{below-refl, FlagLe-refl, IntLe-refl, StrLe-refl, ObjLe-refl, LeafLe-refl}
+use Rattle.type_lattice.proofs.OrderLaws.{below-refl, IntLe-top, StrLe-top, ObjLe-top, FlagLe-refl, IntLe-refl, StrLe-refl, ObjLe-refl, LeafLe-refl}
 
 -- f is above both, and below what is above both
 record Bounds {A : Type 0} (R : A → A → Type 0) (f : A → A → A) : Type 0 where
@@ -46,11 +46,6 @@ flags : Bounds FlagLe either
 flags = record { left = flag_left; right = flag_right; least = flag_least }
 
 -- ints
-int_top : (a : IntPart) → IntLe a ints.Any
-int_top ints.No = tt
-int_top (ints.One i) = tt
-int_top ints.Any = tt
-
 int_both : (i j : ℤ) (P : IntPart → Type 0) → (i ≡ j → P (ints.One i)) → P ints.Any → P (cond (int_eq i j) (ints.One i) ints.Any)
 int_both i j P h k = go (int_eq i j) refl
   where
@@ -70,13 +65,13 @@ int_right ints.No b = IntLe-refl b
 int_right (ints.One i) ints.No = tt
 int_right (ints.One i) (ints.One j) = int_both i j (λ p. IntLe (ints.One j) p) (λ e. sym e) tt
 int_right (ints.One i) ints.Any = tt
-int_right ints.Any b = int_top b
+int_right ints.Any b = IntLe-top b
 
 int_least : (a b c : IntPart) → IntLe a c → IntLe b c → IntLe (int_join a b) c
 int_least ints.No b c h k = k
 int_least (ints.One i) ints.No c h k = h
 int_least (ints.One i) (ints.One j) (ints.One m) h k = rw ((Decides-int_eq i j).1 (h ∙ sym k)) h
-int_least (ints.One i) (ints.One j) ints.Any h k = int_top (cond (int_eq i j) (ints.One i) ints.Any)
+int_least (ints.One i) (ints.One j) ints.Any h k = IntLe-top (cond (int_eq i j) (ints.One i) ints.Any)
 int_least (ints.One i) (ints.One j) ints.No h k = absurd h
 int_least (ints.One i) ints.Any c h k = k
 int_least ints.Any b c h k = h
@@ -97,11 +92,6 @@ short_eq-Decides s t = (to, from)
     from : s ≡ t → short_eq s t ≡ true
     from e = rw e (rw (eq-eqb t.len t.len refl, (bytes_eq-Decides t.bytes t.bytes).1 refl) refl)
 
-str_top : (a : StrPart) → StrLe a strs.Any
-str_top strs.No = tt
-str_top (strs.One i) = tt
-str_top strs.Any = tt
-
 str_both : (i j : Short) (P : StrPart → Type 0) → (i ≡ j → P (strs.One i)) → P strs.Any → P (cond (short_eq i j) (strs.One i) strs.Any)
 str_both i j P h k = go (short_eq i j) refl
   where
@@ -121,13 +111,13 @@ str_right strs.No b = StrLe-refl b
 str_right (strs.One i) strs.No = tt
 str_right (strs.One i) (strs.One j) = str_both i j (λ p. StrLe (strs.One j) p) (λ e. sym e) tt
 str_right (strs.One i) strs.Any = tt
-str_right strs.Any b = str_top b
+str_right strs.Any b = StrLe-top b
 
 str_least : (a b c : StrPart) → StrLe a c → StrLe b c → StrLe (str_join a b) c
 str_least strs.No b c h k = k
 str_least (strs.One i) strs.No c h k = h
 str_least (strs.One i) (strs.One j) (strs.One m) h k = rw ((short_eq-Decides i j).1 (h ∙ sym k)) h
-str_least (strs.One i) (strs.One j) strs.Any h k = str_top (cond (short_eq i j) (strs.One i) strs.Any)
+str_least (strs.One i) (strs.One j) strs.Any h k = StrLe-top (cond (short_eq i j) (strs.One i) strs.Any)
 str_least (strs.One i) (strs.One j) strs.No h k = absurd h
 str_least (strs.One i) strs.Any c h k = k
 str_least strs.Any b c h k = h
@@ -137,12 +127,6 @@ str_bounds = record { left = str_left; right = str_right; least = str_least }
 
 -- objects
 module _ (t : Tree) (forest : Forest t) where
-  obj_top : (a : ObjPart) → ObjLe t a objs.Any
-  obj_top objs.No = tt
-  obj_top (objs.Exact c) = tt
-  obj_top (objs.Sub c) = tt
-  obj_top objs.Any = tt
-
   -- the nearest common class is above both, and below each that is above both
   near : (c d : ℕ) (P : ObjPart → Type 0) → ((x : ℕ) → IsTrue (below t c x) → IsTrue (below t d x) → P (objs.Sub x)) → P objs.Any → P (sub_or_any (nearest t c d))
   near c d P h k = go (nearest t c d) refl
@@ -195,7 +179,7 @@ module _ (t : Tree) (forest : Forest t) where
   obj_right (objs.Sub c) (objs.Exact d) = exact_sub d _ (near_right c d)
   obj_right (objs.Sub c) (objs.Sub d) = near_right c d
   obj_right (objs.Sub c) objs.Any = tt
-  obj_right objs.Any b = obj_top b
+  obj_right objs.Any b = ObjLe-top t b
 
   obj_least : (a b u : ObjPart) → ObjLe t a u → ObjLe t b u → ObjLe t (obj_join t a b) u
   obj_least objs.No b u h k = k
@@ -204,7 +188,7 @@ module _ (t : Tree) (forest : Forest t) where
   obj_least (objs.Exact c) objs.Any u h k = k
   obj_least (objs.Sub c) objs.Any u h k = k
   obj_least objs.Any b u h k = h
-  obj_least a b objs.Any h k = obj_top (obj_join t a b)
+  obj_least a b objs.Any h k = ObjLe-top t (obj_join t a b)
   obj_least (objs.Exact c) (objs.Exact d) (objs.Exact e) h k = rw (eq-eqb c d (h ∙ sym k)) h
   obj_least (objs.Exact c) (objs.Exact d) (objs.Sub e) h k = obj_both c d (λ p. ObjLe t p (objs.Sub e)) (λ q. h) (near_least c d e h k)
   obj_least (objs.Exact c) (objs.Sub d) (objs.Sub e) h k = near_least c d e h k

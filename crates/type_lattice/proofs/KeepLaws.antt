@@ -15,7 +15,7 @@ use Rattle.type_lattice.specs.Proper.{ProperInt, ProperStr, ProperObj, ProperKey
 use Rattle.type_lattice.specs.Types.{cell_leaf, key_leaf}
 use Rattle.type_lattice.specs.Keep.{IsIntKind, IsStrKind, IsObjKind, IsKind, IsConstraint, int_keep, str_keep, sub_keep, obj_keep, part_keep, keep}
 use Rattle.type_lattice.proofs.Chains.{below_trans, below_linear}
-use Rattle.type_lattice.proofs.OrderLaws.{below-refl, IntLe-refl, StrLe-refl, ObjLe-refl, LeafLe-refl}
+use Rattle.type_lattice.proofs.OrderLaws.{below-refl, FlagLe-top, IntLe-top, StrLe-top, ObjLe-top, IntLe-refl, StrLe-refl, ObjLe-refl, LeafLe-refl}
 
 -- below the type
 flag_narrower : (a c : Bool) → FlagLe (a && c) a
@@ -47,30 +47,12 @@ flag_passes false c = tt
 int_passes : (a c : IntPart) → IsIntKind c → IntLe (int_keep a c) c
 int_passes a ints.No k = tt
 int_passes a (ints.One i) k = absurd k
-int_passes ints.No ints.Any k = tt
-int_passes (ints.One i) ints.Any k = tt
-int_passes ints.Any ints.Any k = tt
+int_passes a ints.Any k = IntLe-top a
 
 str_passes : (a c : StrPart) → IsStrKind c → StrLe (str_keep a c) c
 str_passes a strs.No k = tt
 str_passes a (strs.One i) k = absurd k
-str_passes strs.No strs.Any k = tt
-str_passes (strs.One i) strs.Any k = tt
-str_passes strs.Any strs.Any k = tt
-
-flag_top : (a : Bool) → FlagLe a true
-flag_top true = refl
-flag_top false = tt
-
-int_top : (a : IntPart) → IntLe a ints.Any
-int_top ints.No = tt
-int_top (ints.One i) = tt
-int_top ints.Any = tt
-
-str_top : (a : StrPart) → StrLe a strs.Any
-str_top strs.No = tt
-str_top (strs.One i) = tt
-str_top strs.Any = tt
+str_passes a strs.Any k = StrLe-top a
 
 -- above what is below both
 flag_greatest : (u a c : Bool) → FlagLe u a → FlagLe u c → FlagLe u (a && c)
@@ -168,29 +150,23 @@ module _ (t : Tree) where
   sub_passes (objs.Sub d) c = cases_sub d c (λ p. ObjLe t p (objs.Sub c)) (λ e. e) (λ e k. below-refl t c) (λ e k. tt)
   sub_passes objs.Any c = below-refl t c
 
-  obj_top : (a : ObjPart) → ObjLe t a objs.Any
-  obj_top objs.No = tt
-  obj_top (objs.Exact c) = tt
-  obj_top (objs.Sub c) = tt
-  obj_top objs.Any = tt
-
   pub obj_passes : (a c : ObjPart) → IsObjKind c → ObjLe t (obj_keep t a c) c
   obj_passes a objs.No k = tt
   obj_passes a (objs.Exact c) k = absurd k
   obj_passes a (objs.Sub c) k = sub_passes a c
-  obj_passes a objs.Any k = obj_top a
+  obj_passes a objs.Any k = ObjLe-top t a
 
   leaf_top : (l : Leaf) → LeafLe t l cell_leaf
   leaf_top l = record {
-    null = flag_top l.null;
-    no = flag_top l.no;
-    yes = flag_top l.yes;
-    int = int_top l.int;
-    str = str_top l.str;
-    obj = obj_top l.obj;
-    vec = flag_top l.vec;
-    dict = flag_top l.dict;
-    keyset = flag_top l.keyset;
+    null = FlagLe-top l.null;
+    no = FlagLe-top l.no;
+    yes = FlagLe-top l.yes;
+    int = IntLe-top l.int;
+    str = StrLe-top l.str;
+    obj = ObjLe-top t l.obj;
+    vec = FlagLe-top l.vec;
+    dict = FlagLe-top l.dict;
+    keyset = FlagLe-top l.keyset;
   }
 
   unset : (a : Bool) → a ≡ false → FlagLe a false
@@ -201,8 +177,8 @@ module _ (t : Tree) where
     null = unset l.null k.null;
     no = unset l.no k.no;
     yes = unset l.yes k.yes;
-    int = int_top l.int;
-    str = str_top l.str;
+    int = IntLe-top l.int;
+    str = StrLe-top l.str;
     obj = subst (λ p. ObjLe t p objs.No) (sym k.obj) tt;
     vec = unset l.vec k.vec;
     dict = unset l.dict k.dict;

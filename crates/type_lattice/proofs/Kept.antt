@@ -19,7 +19,6 @@ use Rattle.type_lattice.specs.Classes.{Tree, below, Forest}
 use Rattle.type_lattice.specs.Types.{cell_leaf, key_leaf}
 use Rattle.type_lattice.specs.Member.{Heap, in_leaf, key_in, vec_in, dict_in, keyset_in, int_in, str_in, is_below, obj_in, class_at, cell_in, is_member}
 use Rattle.type_lattice.specs.Keep.{IsIntKind, IsStrKind, IsKind, IsConstraint, int_keep, str_keep, sub_keep, obj_keep, part_keep, keep}
-use Rattle.type_lattice.proofs.OrderLaws.{Transitive}
 use Rattle.type_lattice.proofs.Chains.{below_trans}
 use Rattle.type_lattice.proofs.Members.{each, leaf_has, key_has, obj_in-le, is_member-le}
 use Rattle.type_lattice.proofs.KeepLaws.{cases_sub, cases_exact, apart, obj_passes, keep_narrower}
@@ -69,9 +68,6 @@ part_stays whole P h a None k m = m
 part_stays whole P h a (Some c) k m = subst (λ w. P (Some w) ≡ true) (sym k) h
 
 module _ (t : Tree) (forest : Forest t) where
-  higher : Transitive t
-  higher a b c h k = below_trans t forest a b c h k
-
   sub_kept : (o : Option ℕ) (a : ObjPart) (c : ℕ) → obj_in t o a ≡ true → is_below t o c ≡ true → obj_in t o (sub_keep t a c) ≡ true
   sub_kept None a c h k = absurd (cc)
   sub_kept (Some x) objs.No c h k = h
@@ -122,7 +118,7 @@ module _ (t : Tree) (forest : Forest t) where
           let ks = keys_of entries in let vs = cells_of (values_of entries) in
           part_stays (key_leaf, cell_leaf) (λ p. dict_in t heap p ks vs) (flag_kept _ _ (all_keys ks) (all_leaf vs)) a.dict c.dict k.dict m
       cell_stays (cells.Keyset elements) m = part_stays key_leaf (λ p. keyset_in p elements) (all_keys elements) a.keyset c.keyset k.keyset m
-      cell_stays (cells.Obj n) m = obj_in-le t higher (class_at heap n) (obj_keep t a.obj c.obj) c.obj (obj_passes t a.obj c.obj k.obj) m
+      cell_stays (cells.Obj n) m = obj_in-le t (below_trans t forest) (class_at heap n) (obj_keep t a.obj c.obj) c.obj (obj_passes t a.obj c.obj k.obj) m
 
       member_stays : (s : Slot) → is_member t heap s (keep t a c) ≡ true → is_member t heap s c ≡ true
       member_stays slots.Uninit m = flag_stays a.uninit c.uninit m
@@ -131,4 +127,4 @@ module _ (t : Tree) (forest : Forest t) where
       pub members_of_both : (s : Slot) → is_member t heap s (keep t a c) ≡ (is_member t heap s a && is_member t heap s c)
       members_of_both s =
           as_both (is_member t heap s (keep t a c)) (is_member t heap s a) (is_member t heap s c)
-          (is_member-le t higher heap s (keep t a c) a (keep_narrower t a c)) (member_stays s) (member_kept s)
+          (is_member-le t (below_trans t forest) heap s (keep t a c) a (keep_narrower t a c)) (member_stays s) (member_kept s)

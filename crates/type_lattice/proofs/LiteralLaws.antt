@@ -1,10 +1,11 @@
 -- A literal is a member of its type, which is below each proper type that has it as a member.
-use Rattle.std.proofs.Common.{◌≡◌, ◌≤◌, ◌<◌, ◌-◌, ◌++◌, ℕ, ℤ, Bool, true, false, Option, Some, None, List, length, replicate, take, nat_le, cond, refl, arith, ap, sym, subst, ◌∙◌, length-take-le}
+use Rattle.std.proofs.Common.{lit<, ◌≡◌, ◌≤◌, ◌<◌, ◌-◌, ◌++◌, ℕ, ℤ, Bool, true, false, Option, Some, None, List, length, replicate, take, nat_le, cond, refl, arith, ap, sym, subst, ◌∙◌, length-take-le, ◌+◌, All, length-append}
 use Rattle.std.proofs.lemmas.Bool.{leb-true, leb-false}
 use Rattle.std.proofs.lemmas.Bool.Decides.{Decides-int_eq}
 use Rattle.std.proofs.lemmas.Slice.Eq.{bytes_eq-Decides}
-use Rattle.std.proofs.lemmas.List.{take-append-drop}
-use Rattle.std.proofs.Math.Seq.{take-append_seam}
+use Rattle.std.proofs.lemmas.List.{take-append-drop, length-replicate}
+use Rattle.std.proofs.Math.Seq.{take-append_seam, drop-append_seam}
+use Rattle.std.proofs.lemmas.List.Elements.{All-append, All-replicate}
 use Rattle.std.specs.Map.{keys_of, values_of}
 use Rattle.hack_values.specs.View.{cells_of}
 use Rattle.hack_values.specs.declared.key.Key.{Key}
@@ -19,7 +20,7 @@ use Rattle.type_lattice.specs.declared.types.Leaf.{Leaf}
 use Rattle.type_lattice.specs.declared.types.HType.{HType}
 use Rattle.type_lattice.specs.Classes.{Tree}
 use Rattle.type_lattice.specs.Order.{IntLe, StrLe, LeafLe, PartLe, EntryLe, Le}
-use Rattle.type_lattice.specs.Proper.{ProperShort, ProperStr, IsProper}
+use Rattle.type_lattice.specs.Proper.{ProperScalar, ProperShort, ProperStr, ProperLeaf, ProperKey, IsProper}
 use Rattle.type_lattice.specs.Types.{never_leaf, short_bytes, str_part, literal, IsLiteral}
 use Rattle.type_lattice.specs.Member.{Heap, int_in, str_in, vec_in, dict_in, keyset_in, cell_in}
 
@@ -57,6 +58,39 @@ int_least : (i : ℤ) (p : IntPart) → int_in i p ≡ true → IntLe (ints.One 
 int_least i ints.No m = absurd (cc)
 int_least i (ints.One j) m = (Decides-int_eq i j).0 m
 int_least i ints.Any m = tt
+
+-- a literal's type is proper
+fills : (n k : ℕ) → n ≤ k → n + (k - n) ≡ k
+fills n k h = omega arith
+
+short_proper : (s : List ℕ) → length s ≤ 32 → All (λ b. b < 256) s → ProperShort (short s)
+short_proper s h k = record {
+  short = h;
+  room = length-append s (replicate (32 - length s) 0) ∙ ap (λ n. length s + n) (length-replicate (32 - length s) 0) ∙ fills (length s) 32 h;
+  bytes = All-append (λ b. b < 256) s (replicate (32 - length s) 0) k (All-replicate (λ b. b < 256) (32 - length s) 0 (lit< tt));
+  zeros = drop-append_seam s (replicate (32 - length s) 0);
+}
+
+str_proper : (s : List ℕ) → All (λ b. b < 256) s → ProperStr (str_part s)
+str_proper s k = str_either s ProperStr (λ h. short_proper s h k) (λ h. tt)
+
+never_key : ProperKey never_leaf
+never_key = record { null = refl; no = refl; yes = refl; int = tt; str = tt; obj = refl; vec = refl; dict = refl; keyset = refl }
+
+module _ (tree : Tree) where
+  never_proper : ProperLeaf tree never_leaf
+  never_proper = record { int = tt; str = tt; obj = tt }
+
+  pub literal_proper : (c : Cell) → ProperScalar c → IsProper tree (literal c)
+  literal_proper cells.Null h = record { int = tt; str = tt; obj = tt; vec = tt; dict = tt; keyset = tt }
+  literal_proper (cells.Bool true) h = record { int = tt; str = tt; obj = tt; vec = tt; dict = tt; keyset = tt }
+  literal_proper (cells.Bool false) h = record { int = tt; str = tt; obj = tt; vec = tt; dict = tt; keyset = tt }
+  literal_proper (cells.Int i) h = record { int = h; str = tt; obj = tt; vec = tt; dict = tt; keyset = tt }
+  literal_proper (cells.Str s) h = record { int = tt; str = str_proper s h; obj = tt; vec = tt; dict = tt; keyset = tt }
+  literal_proper (cells.Vec items) h = record { int = tt; str = tt; obj = tt; vec = never_proper; dict = tt; keyset = tt }
+  literal_proper (cells.Dict entries) h = record { int = tt; str = tt; obj = tt; vec = tt; dict = (never_key, never_proper); keyset = tt }
+  literal_proper (cells.Keyset elements) h = record { int = tt; str = tt; obj = tt; vec = tt; dict = tt; keyset = never_key }
+  literal_proper (cells.Obj n) h = record { int = tt; str = tt; obj = tt; vec = tt; dict = tt; keyset = tt }
 
 module _ (tree : Tree) (heap : Heap) where
   never_below : (l : Leaf) → LeafLe tree never_leaf l

@@ -67,3 +67,8 @@ first test (c ∷ cs) = cond (test c) (Some c) (first test cs)
 -- the nearest class that both are or descend from
 abbrev pub nearest : Tree → ℕ → ℕ → Option ℕ
 nearest tree a b = first (below tree b) (chain tree a)
+
+-- both descend from or are the class, and it descends from or is each other class of which that holds; without a class there is none
+abbrev pub IsNearest : Tree → ℕ → ℕ → Option ℕ → Type 0
+IsNearest tree a b None = (e : ℕ) → Descends tree a e → Descends tree b e → ⊥
+IsNearest tree a b (Some c) = Descends tree a c × Descends tree b c × ((e : ℕ) → Descends tree a e → Descends tree b e → Descends tree c e)

@@ -1,15 +1,24 @@
 //! Laws of the definitions, each the contract of a function that does nothing.
 
-ghost use Rattle.type_lattice.specs.Laws.{LeIsOrder, JoinIsLeastAbove, MembersStay, LiteralIsLeast, KeepIsGreatestBelow, HeightIsBounded, DepthIsBounded};
+ghost use Rattle.type_lattice.specs.Laws.{ClassesAreOrdered, LeIsOrder, JoinIsLeastAbove, MembersStay, LiteralIsLeast, LiteralIsProper, KeepIsGreatestBelow, HeightIsBounded, DepthIsBounded};
 ghost use Rattle.type_lattice.specs.Never.{NeverIsNever};
 ghost use Rattle.type_lattice.specs.Whole.{WholeIsAboveCell};
 
-/// The order is one: reflexive, transitive, and two types below each other are equal.
+/// The test of descent says whether some number of steps up lead from the one class to the other. The nearest
+/// class of two is one that both descend from or are, and descends from or is each other such class; there is
+/// none only where the two have none in common.
+pub fn classes_are_ordered()
+    ensures { ClassesAreOrdered }
+{}
+
+/// The order is one: reflexive, transitive, and two types below each other are equal. The type without members is
+/// below all.
 pub fn le_is_order()
     ensures { LeIsOrder }
 {}
 
-/// The join of two types is the least of all types that are above both, proper or not; that of proper types is proper.
+/// The join of two types is the least of all types that are above both, proper or not. It rises with both, and that
+/// of proper types is proper.
 pub fn join_is_least_above()
     ensures { JoinIsLeastAbove }
 {}
@@ -22,6 +31,11 @@ pub fn members_stay()
 /// A literal is a member of its type, and that is below each proper type that has it as a member.
 pub fn literal_is_least()
     ensures { LiteralIsLeast }
+{}
+
+/// The type of a literal is proper, where its number or its bytes are in range.
+pub fn literal_is_proper()
+    ensures { LiteralIsProper }
 {}
 
 /// What a constraint keeps of a type is the greatest type below both. It rises with the type, and its members

@@ -14,8 +14,9 @@ pub use class_tree::ClassTree;
 pub use constraint::keep;
 pub use joins::join;
 pub use laws::{
-    depth_is_bounded, height_is_bounded, join_is_least_above, keep_is_greatest_below, le_is_order,
-    literal_is_least, members_stay, never_is_never, whole_is_above_cell,
+    classes_are_ordered, depth_is_bounded, height_is_bounded, join_is_least_above,
+    keep_is_greatest_below, le_is_order, literal_is_least, literal_is_proper, members_stay,
+    never_is_never, whole_is_above_cell,
 };
 pub use literal::of_literal;
 pub use order::le;

@@ -206,10 +206,12 @@ fn literals_have_the_least_type(rt: HostRuntime) -> Result<(), Fail> {
 
 #[test]
 fn laws_can_be_called(_rt: HostRuntime) -> Result<(), Fail> {
+    classes_are_ordered();
     le_is_order();
     join_is_least_above();
     members_stay();
     literal_is_least();
+    literal_is_proper();
     keep_is_greatest_below();
     height_is_bounded();
     depth_is_bounded();
