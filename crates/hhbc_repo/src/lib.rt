@@ -6,6 +6,7 @@ mod code;
 mod laws;
 mod parts;
 mod repo;
+mod soundness;
 
 pub use body::{Assert, Body, Position, Region};
 pub use code::{Arm, Base, Code, Final, Imm, Instr, MemberKey, MemberSeq};
@@ -18,3 +19,4 @@ pub use parts::{
     InstrParts, ItemParts, MemberKeyParts, MemberSeqParts, PositionParts, PropertyParts, TypeParts,
 };
 pub use repo::{Class, Const, Property, Repo};
+pub use soundness::{Analysed, facts_stay_true, rounds_stay_true};
