@@ -1,14 +1,12 @@
 -- Facts that are true in a run stay true after a round.
-use Rattle.std.proofs.Common.{◌≡◌, ℕ, zero, suc, refl, sym, subst, Bool, true, false, nat_le, Option, Some, None, List, [], ◌∷◌, slice_get, length, cond}
+use Rattle.std.proofs.Common.{◌≡◌, ℕ, zero, suc, refl, sym, subst, Bool, true, false, nat_le, Option, Some, None, List, [], ◌∷◌, length, cond}
 use Rattle.hack_values.specs.declared.cell.Cell.{Cell}
-use Rattle.hack_values.specs.declared.cell.Cell.TheVariants as cells
-use Rattle.hack_values.specs.declared.heap.Object.{Object}
-use Rattle.type_lattice.specs.Member.{Heap}
 use Rattle.hhbc_repo.specs.Linked.{Linked}
 use Rattle.hhbc_repo.specs.Outcome.{Place, Fatal, Frames}
 use Rattle.hhbc_repo.specs.Machine.{World, Frame, Turn, Goes, Calls, Returns, Raises, Ends, Fails, Sticks}
-use Rattle.hhbc_repo.specs.Steps.{Config, Running, Ended, place_of, after_call, caught, uncaught, uncaught_cell, resume, unwind, give, frame_limit, finish, next_by, steps_by}
-use Rattle.hhbc_repo.specs.Soundness.{Analysis, world_of, CallsBody, At, Led, GoesWith, Laws, IsRoundBy, AreByRounds, TrueOf, Lies, Waiting, EndsWell, Sound, Starts, FactsStayTrue, RoundsStayTrue}
+use Rattle.hhbc_repo.specs.Steps.{Config, Running, Ended, place_of, after_call, caught, resume, unwind, give, frame_limit, finish, next_by, steps_by}
+use Rattle.hhbc_repo.proofs.Steady.{never_stuck}
+use Rattle.hhbc_repo.specs.Soundness.{Analysis, world_of, CallsBody, At, Led, GoesWith, Laws, IsRoundBy, AreByRounds, TrueOf, Lies, Waiting, Sound, Starts, FactsStayTrue, RoundsStayTrue}
 
 -- a turn that calls a body, as a turn
 called_by : (b : ℕ) (t : Turn) → CallsBody b t → (g : Frame) × (v : World) × (t ≡ Calls g v) × (g.body ≡ b)
@@ -19,20 +17,6 @@ called_by b (Raises e v) h = absurd h
 called_by b (Ends e v) h = absurd h
 
 module _ (r : Linked) (A : Analysis) where
-  uncaught_well : (o : Option Object) (p : Place) → EndsWell r A (uncaught o p)
-  uncaught_well None p = tt
-  uncaught_well (Some o) p = tt
-
-  ends_well : (heap : Heap) (e : Cell) (p : Place) → EndsWell r A (uncaught_cell heap e p)
-  ends_well heap cells.Null p = tt
-  ends_well heap (cells.Bool b) p = tt
-  ends_well heap (cells.Int i) p = tt
-  ends_well heap (cells.Str s) p = tt
-  ends_well heap (cells.Vec vs) p = tt
-  ends_well heap (cells.Dict es) p = tt
-  ends_well heap (cells.Keyset ks) p = tt
-  ends_well heap (cells.Obj n) p = uncaught_well (slice_get heap n) p
-
   -- what a running or an ended configuration shares
   shared_by : (F : A.Facts) (o : Option Frame) (fs : List Frame) (w : World) (other : Config)
       → (TrueOf r A F other → A.Shares F w) → TrueOf r A F (resume o fs w other) → A.Shares F w
@@ -85,7 +69,7 @@ module _ (r : Linked) (A : Analysis) where
 
     unwound : (p : Place) (b : ℕ) (fs : List Frame) (e : Cell) (w : World) → A.Shares F w → A.Shares G w → A.IsRaised e w
         → Waiting r A Ts b fs w → Sound r A Ts G (unwind r p fs e w)
-    unwound p b [] e w t shares raised waits = (shares, ends_well w.heap e p)
+    unwound p b [] e w t shares raised waits = (shares, λ why is. absurd (never_stuck w.heap e p why is))
     unwound p b (f ∷ fs) e w t shares raised waits =
         let calls = called_by b (A.turn f w) waits.0 in
         let fit = waiting_fits f waits.1.0 w calls.0 calls.1 t waits.1.2 calls.2 in
@@ -94,7 +78,7 @@ module _ (r : Linked) (A : Analysis) where
 
     given : (b : ℕ) (fs : List Frame) (c : Cell) (w : World) → A.Shares F w → A.Shares G w → A.MayReturn F b c w
         → Waiting r A Ts b fs w → Sound r A Ts G (give r fs c w)
-    given b [] c w t shares may waits = (shares, tt)
+    given b [] c w t shares may waits = (shares, λ why is. absurd (cc))
     given b (f ∷ fs) c w t shares may waits =
         let calls = called_by b (A.turn f w) waits.0 in
         let fit = waiting_fits f waits.1.0 w calls.0 calls.1 t waits.1.2 calls.2 in
@@ -103,7 +87,7 @@ module _ (r : Linked) (A : Analysis) where
 
     entered : (full : Bool) (g f : Frame) (fs : List Frame) (w : World) → Sound r A Ts G (Running g (f ∷ fs) w)
         → Sound r A Ts G (cond full (Ended (Fatal Frames (place_of f)) w) (Running g (f ∷ fs) w))
-    entered true g f fs w sound = (sound.0, tt)
+    entered true g f fs w sound = (sound.0, λ why is. absurd (cc))
     entered false g f fs w sound = sound
 
     -- by kinds of step
@@ -130,8 +114,9 @@ module _ (r : Linked) (A : Analysis) where
         let waits = waiting_grows f.body fs w v now.0 t fit.grows sound.2 in
         resumed (caught r f e) f sound.1.0 fs e v (unwind r (place_of f) fs e v) shares sound.1.1 (L.holds_grows f _ w v fit.grows sound.1.2)
         fit.fits.0 fit.fits.1 waits refl (unwound (place_of f) f.body fs e v t shares fit.fits.0 waits)
-    by_turn f fs w (Ends (Fails name) v) now next sound is fit shares = (shares, tt)
-    by_turn f fs w (Ends (Sticks why) v) now next sound is fit shares = (shares, fit.fits)
+    by_turn f fs w (Ends (Fails name) v) now next sound is fit shares = (shares, λ why e. absurd (cc))
+    by_turn f fs w (Ends (Sticks why) v) now next sound is fit shares =
+        (shares, λ other e. let same : why ≡ other = cc in (f.body, f.position, sound.1.0, sound.1.1, subst (A.MayStick f.body f.position sound.1.0) same fit.fits))
 
     -- a step keeps it
     kept : (c : Config) → TrueOf r A F c → TrueOf r A F (next_by A.turn r c) → Sound r A Ts G c → Sound r A Ts G (next_by A.turn r c)
@@ -165,7 +150,7 @@ module _ (r : Linked) (A : Analysis) where
           (up.0, subst (λ q. At r A Ts f.body q up.0) (sym start.2) up.1, L.holds_below f _ _ w up.2 start.3),
           subst (λ fs. Waiting r A Ts f.body fs w) (sym start.0) tt,
         )
-    starts_sound (Ended o w) start = (start.1 G, start.0)
+    starts_sound (Ended o w) start = (start.1 G, λ why is. absurd (start.0 why is))
 
   by_rounds : (L : Laws r A) (first : A.Facts) → ((c : Config) → TrueOf r A first c) → (c : Config) → Starts r A c
       → (n : ℕ) (F : A.Facts) → AreByRounds r A first n F → (m : ℕ) → TrueOf r A F (steps_by A.turn r c m)

@@ -100,7 +100,7 @@ not_stuck : (o : Option Object) (p : Place) (why : Why) → uncaught o p ≡ Stu
 not_stuck None p why e = cc
 not_stuck (Some o) p why e = cc
 
-never_stuck : (heap : Heap) (e : Cell) (p : Place) (why : Why) → uncaught_cell heap e p ≡ Stuck why → ⊥
+pub never_stuck : (heap : Heap) (e : Cell) (p : Place) (why : Why) → uncaught_cell heap e p ≡ Stuck why → ⊥
 never_stuck heap cells.Null p why e = cc
 never_stuck heap (cells.Bool b) p why e = cc
 never_stuck heap (cells.Int i) p why e = cc

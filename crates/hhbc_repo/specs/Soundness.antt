@@ -29,8 +29,8 @@ pub record Analysis : Type 1 where
   pub IsRaised : Cell → World → Type 0
   -- an exception may come from this position of the body
   pub MayThrow : ℕ → ℕ → Type 0
-  -- a turn may get stuck so
-  pub MayStick : Why → Type 0
+  -- a turn at this position of the body, with the state, may get stuck so
+  pub MayStick : ℕ → ℕ → State → Why → Type 0
   -- the state of the body that a frame enters with
   pub entry : ℕ → State
   -- under the facts the state at a position of a body flows to another position, as another state
@@ -83,7 +83,7 @@ module _ (r : Linked) (A : Analysis) where
   Fits F f s w (Returns c v) = A.Gives F f.body f.position s c v
   Fits F f s w (Raises e v) = A.IsRaised e v × A.MayThrow f.body f.position
   Fits F f s w (Ends (Fails name) v) = Unit {0}
-  Fits F f s w (Ends (Sticks why) v) = A.MayStick why
+  Fits F f s w (Ends (Sticks why) v) = A.MayStick f.body f.position s why
 
   -- a turn of a frame goes with the state of the frame
   pub record GoesWith (F : A.Facts) (f : Frame) (s : A.State) (w : World) (t : Turn) : Type 0 where
@@ -132,21 +132,20 @@ module _ (r : Linked) (A : Analysis) where
   Waiting Ts b [] w = Unit {0}
   Waiting Ts b (f ∷ fs) w = CallsBody b (A.turn f w) × Lies Ts f w × Waiting Ts f.body fs w
 
-  -- where a run got stuck, it may get stuck so
-  abbrev pub EndsWell : Outcome → Type 0
-  EndsWell (Stuck why) = A.MayStick why
-  EndsWell _ = Unit {0}
+  -- where a run got stuck, a position with its state may get stuck so
+  abbrev pub EndsWell : List (List (Option A.State)) → Outcome → Type 0
+  EndsWell Ts o = (why : Why) → o ≡ Stuck why → (b : ℕ) × (p : ℕ) × (s : A.State) × At Ts b p s × A.MayStick b p s why
 
   -- what frames share is as the facts say, the topmost frame lies in its state, and the frames below it wait
   abbrev pub Sound : List (List (Option A.State)) → A.Facts → Config → Type 0
   Sound Ts G (Running f fs w) = A.Shares G w × Lies Ts f w × Waiting Ts f.body fs w
-  Sound Ts G (Ended o w) = A.Shares G w × EndsWell o
+  Sound Ts G (Ended o w) = A.Shares G w × EndsWell Ts o
 
-  -- one frame that enters a body, in a world where no facts are false; or an end in such a world
+  -- one frame that enters a body, in a world where no facts are false; or an end in such a world, which isn't stuck
   abbrev pub Starts : Config → Type 0
   Starts (Running f fs w) =
       (fs ≡ []) × IsBody r f.body × (f.position ≡ 0) × A.Holds f (A.entry f.body) w × ((G : A.Facts) → A.Shares G w)
-  Starts (Ended o w) = EndsWell o × ((G : A.Facts) → A.Shares G w)
+  Starts (Ended o w) = ((why : Why) → o ≡ Stuck why → ⊥) × ((G : A.Facts) → A.Shares G w)
 
 -- from a sound configuration, facts that are true in a run stay true after a round, and each configuration is sound
 abbrev pub FactsStayTrue : (Linked → Analysis) → Type 0

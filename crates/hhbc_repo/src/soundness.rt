@@ -3,6 +3,7 @@
 
 ghost use Rattle.hhbc_repo.specs.Linked.{Linked};
 ghost use Rattle.hhbc_repo.specs.Soundness.{Analysis, FactsStayTrue, RoundsStayTrue};
+ghost use Rattle.hhbc_repo.specs.Sample.{SampleIsTrue};
 
 /// An analysis of the runs of every repository.
 ///
@@ -23,4 +24,10 @@ pub fn facts_stay_true<A: Analysed>()
 /// that wait for a call too, lies in the state of its position by each round from these facts.
 pub fn rounds_stay_true<A: Analysed>()
     ensures { RoundsStayTrue A.analysis }
+{}
+
+/// An example: in each run of a small language, whose bodies call one another, write, and raise and
+/// catch exceptions, its facts on ints and on output are true after any number of rounds.
+pub fn sample_is_true()
+    ensures { SampleIsTrue }
 {}
