@@ -7,6 +7,7 @@ mod ClassChains
 mod Examples
 mod FactsTrue
 mod Faithful
+mod RoundOrder
 mod Sound
 mod Trimmed
 mod Unique
