@@ -1,6 +1,8 @@
 pub mod FirstForm
-pub mod Steady
+pub mod Growing
 pub mod SampleTrue
 pub mod StaysTrue
-pub mod Walking
+pub mod Steady
 pub mod Stripped
+pub mod TestedRuns
+pub mod Walking

@@ -19,4 +19,4 @@ pub use parts::{
     InstrParts, ItemParts, MemberKeyParts, MemberSeqParts, PositionParts, PropertyParts, TypeParts,
 };
 pub use repo::{Class, Const, Property, Repo};
-pub use soundness::{Analysed, facts_stay_true, rounds_stay_true, sample_is_true};
+pub use soundness::{Analysed, facts_stay_true, rounds_stay_true, sample_is_true, tests_only_stop};

@@ -4,6 +4,7 @@
 ghost use Rattle.hhbc_repo.specs.Linked.{Linked};
 ghost use Rattle.hhbc_repo.specs.Soundness.{Analysis, FactsStayTrue, RoundsStayTrue};
 ghost use Rattle.hhbc_repo.specs.Sample.{SampleIsTrue};
+ghost use Rattle.hhbc_repo.specs.Tested.{TestsOnlyStop};
 
 /// An analysis of the runs of every repository.
 ///
@@ -30,4 +31,10 @@ pub fn rounds_stay_true<A: Analysed>()
 /// catch exceptions, its facts on ints and on output are true after any number of rounds.
 pub fn sample_is_true()
     ensures { SampleIsTrue }
+{}
+
+/// A run whose assertions are tested goes as the one without tests, until it stops with the world
+/// as it is.
+pub fn tests_only_stop()
+    ensures { TestsOnlyStop }
 {}
