@@ -7,9 +7,11 @@ mod ClassChains
 mod Examples
 mod FactsTrue
 mod Faithful
+mod Raising
 mod RoundOrder
 mod Sound
 mod Trimmed
+mod TypeLaws
 mod Unique
 pub mod Putting
 pub mod SecondForm

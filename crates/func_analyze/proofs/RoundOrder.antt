@@ -42,12 +42,12 @@ le_at tree (x ∷ xs) (y ∷ ys) zero s t h i k =
     subst (λ t. Le tree s t) b (subst (λ s. Le tree s y) a h.0)
 le_at tree (x ∷ xs) (y ∷ ys) (suc n) s t h i k = le_at tree xs ys n s t h.1 i k
 
-found : {A : Type 0} (xs : List A) (n : ℕ) → n < length xs → (x : A) × (slice_get xs n ≡ Some x)
+pub found : {A : Type 0} (xs : List A) (n : ℕ) → n < length xs → (x : A) × (slice_get xs n ≡ Some x)
 found [] n h = absurd (omega arith)
 found (x ∷ xs) zero h = (x, refl)
 found (x ∷ xs) (suc n) h = found xs n (omega arith)
 
-same_cell : (k n : ℕ) (t : HType) → slice_get (replicate k cell) n ≡ Some t → t ≡ cell
+pub same_cell : (k n : ℕ) (t : HType) → slice_get (replicate k cell) n ≡ Some t → t ≡ cell
 same_cell zero n t e = absurd (cc)
 same_cell (suc k) zero t e = cc
 same_cell (suc k) (suc n) t e = same_cell k n t e

@@ -1,13 +1,10 @@
 -- In each run of a repository of the first form the frame lies in the state of its position, under any facts.
-use Rattle.std.proofs.Common.{◌≡◌, ℕ, zero, suc, ◌-◌, refl, sym, ◌∙◌, ap, subst, Bool, true, false, ◌==◌, nat_eq, Option, Some, None, List, [], ◌∷◌, ◌++◌, map, replicate, slice_get, length, cond, Contains, arith}
+use Rattle.std.proofs.Common.{◌≡◌, ℕ, zero, suc, refl, sym, ◌∙◌, ap, subst, Bool, true, false, ◌==◌, nat_eq, Option, Some, None, List, [], slice_get, length, cond, Contains}
 use Rattle.std.specs.Cmp.Lexicographic.{pointwise}
 use Rattle.std.proofs.lemmas.Bool.Decides.{Decides-eqb}
 use Rattle.std.proofs.lemmas.Option.{slice_get-map}
 use Rattle.hack_values.specs.declared.cell.Cell.{Cell}
-use Rattle.hack_values.specs.declared.cell.Slot.TheVariants as slots
-use Rattle.type_lattice.specs.Types.{cell, uninit}
-use Rattle.type_lattice.specs.Member.{Heap, AreMembers}
-use Rattle.type_lattice.proofs.Members.{cell_in-cell, AreMembers-alive}
+use Rattle.type_lattice.specs.Member.{Heap}
 use Rattle.hhbc_repo.specs.declared.code.Code.{Code}
 use Rattle.hhbc_repo.specs.declared.body.Body.{Body}
 use Rattle.hhbc_repo.specs.declared.body.Position.{Position}
@@ -18,14 +15,14 @@ use Rattle.hhbc_repo.specs.Outcome.{WrongCount, Underflow}
 use Rattle.hhbc_repo.specs.Machine.{World, Frame, Turn, Goes, Calls, Returns, Raises, Ends, Fails, Sticks, perform_code, turn_in, turn}
 use Rattle.hhbc_repo.specs.Steps.{Config, Running, Ended, finish, next}
 use Rattle.hhbc_repo.specs.Run.{advance, after, entered, no_world, start_in, start}
-use Rattle.hhbc_repo.proofs.FirstForm.{only, built_in_transitive}
+use Rattle.hhbc_repo.proofs.FirstForm.{only}
 use Rattle.hhbc_repo.proofs.Steady.{only_at, turn_is, uncaught_here}
-use Rattle.abstract_step.specs.State.{State, StateLe, entry_state, is_alive}
+use Rattle.abstract_step.specs.State.{State, entry_state}
 use Rattle.abstract_step.specs.Flow.{flow}
-use Rattle.abstract_step.proofs.StateOrder.{AreMembers-le, together}
 use Rattle.abstract_step.proofs.Rows.{Lies, LiesBehind, Fits, fits_code}
 use Rattle.func_analyze.specs.Solution.{Table, HasState, HasAbove, IsSolution}
 use Rattle.func_analyze.specs.Chain.{no_repo, no_facts, row_of, if_alive, state_behind}
+use Rattle.func_analyze.proofs.TypeLaws.{lies_alive, lies_above, entered_lies}
 use Rattle.func_analyze.proofs.ChainLeast.{flow_to, behind_in}
 
 -- the frame is one of the only body, and its slots are of the types that the table has at its position
@@ -39,21 +36,11 @@ abbrev pub Sound : Table → Config → Type 0
 Sound T (Running f fs w) = (fs ≡ []) × Sits T f w.heap
 Sound T (Ended o w) = Unit {0}
 
-lies_alive : (f : Frame) (heap : Heap) (s : State) → Lies built_in_tree f heap s → is_alive s ≡ true
-lies_alive f heap s h =
-    together _ _ (AreMembers-alive built_in_tree heap f.locals s.locals h.locals) (AreMembers-alive built_in_tree heap f.stack s.stack h.stack)
-
-lies_above : (f : Frame) (heap : Heap) (s t : State) → StateLe built_in_tree s t → Lies built_in_tree f heap s → Lies built_in_tree f heap t
-lies_above f heap s t h l = record {
-  locals = AreMembers-le built_in_tree built_in_transitive heap f.locals s.locals t.locals h.locals l.locals;
-  stack = AreMembers-le built_in_tree built_in_transitive heap f.stack s.stack t.stack h.stack l.stack;
-}
-
 -- where a frame lies behind a code, the state there is one that the code leads to
 behind_state : (f : Frame) (heap : Heap) (o : Option State) → LiesBehind built_in_tree f heap o
     → (s : State) × (if_alive o ≡ Some s) × Lies built_in_tree f heap s
 behind_state f heap None h = absurd h
-behind_state f heap (Some s) h = (s, rw (lies_alive f heap s h) refl, h)
+behind_state f heap (Some s) h = (s, rw (lies_alive built_in_tree f heap s h) refl, h)
 
 module _ (b : Body) (g : b.regions ≡ []) (F : Facts) (T : Table) (solves : IsSolution (only (bare_body b)) F 0 T) where
   sound_turn : (f : Frame) (w : World) (q : Position) (t : Turn) (h : Sits T f w.heap) → slice_get b.positions f.position ≡ Some q
@@ -69,7 +56,7 @@ module _ (b : Body) (g : b.regions ≡ []) (F : Facts) (T : Table) (solves : IsS
           body = k.2 ∙ h.body;
           state = a.0;
           at = subst (λ n. HasState T n a.0) (sym k.1) a.1;
-          lies = subst (λ (u : World). Lies built_in_tree x u.heap a.0) (sym k.3) (lies_above x w.heap s.0 a.0 a.2 s.2);
+          lies = subst (λ (u : World). Lies built_in_tree x u.heap a.0) (sym k.3) (lies_above built_in_tree x w.heap s.0 a.0 a.2 s.2);
         },
       )
   sound_turn f w q (Calls x v) h e k = absurd k
@@ -107,20 +94,6 @@ module _ (b : Body) (g : b.regions ≡ []) (F : Facts) (T : Table) (solves : IsS
   sound_after c h zero = h
   sound_after c h (suc n) = sound_advance (after (only b) false c n) (sound_after c h n)
 
-  uninit_members : (heap : Heap) (n : ℕ) → AreMembers built_in_tree heap (replicate n slots.Uninit) (replicate n uninit)
-  uninit_members heap zero = tt
-  uninit_members heap (suc n) = (refl, uninit_members heap n)
-
-  entry_members : (heap : Heap) (args : List Cell) (n m : ℕ) → length args ≡ n
-      → AreMembers built_in_tree heap (map (λ c. slots.Cell c) args ++ replicate m slots.Uninit) (replicate n cell ++ replicate m uninit)
-  entry_members heap [] zero m e = uninit_members heap m
-  entry_members heap [] (suc n) m e = absurd (omega arith)
-  entry_members heap (c ∷ args) zero m e = absurd (omega arith)
-  entry_members heap (c ∷ args) (suc n) m e = (cell_in-cell built_in_tree heap c, entry_members heap args n m (omega arith))
-
-  entered_lies : (args : List Cell) → length args ≡ b.params → Lies built_in_tree (entered 0 b args) [] (entry_state b)
-  entered_lies args e = record { locals = entry_members [] args b.params (length b.locals - b.params) e; stack = tt }
-
   sound_counted : (t : Bool) (args : List Cell) → (length args == b.params) ≡ t
       → Sound T (cond t (Running (entered 0 b args) [] no_world) (Ended WrongCount no_world))
   sound_counted true args e =
@@ -131,7 +104,7 @@ module _ (b : Body) (g : b.regions ≡ []) (F : Facts) (T : Table) (solves : IsS
           body = refl;
           state = a.0;
           at = a.1;
-          lies = lies_above (entered 0 b args) [] (entry_state b) a.0 a.2 (entered_lies args ((Decides-eqb (length args) b.params).0 e));
+          lies = lies_above built_in_tree (entered 0 b args) [] (entry_state b) a.0 a.2 (entered_lies built_in_tree 0 b args ((Decides-eqb (length args) b.params).0 e));
         },
       )
   sound_counted false args e = tt

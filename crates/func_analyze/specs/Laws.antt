@@ -45,7 +45,7 @@ AnnotatedIsUnique = (r a : Linked) (form : IsFirstForm r) → AreWords form.body
 
 -- the facts after any number of rounds are true in every run
 abbrev pub FactsAreTrue : Type 0
-FactsAreTrue = (r : Linked) → IsFirstForm r → (n : ℕ) (F : Facts) → IsFacts (bare r) n F → AreTrue r F
+FactsAreTrue = (r : Linked) (n : ℕ) (F : Facts) → IsFacts (bare r) n F → AreTrue r F
 
 -- a repository of the second form is annotated along its codes as they stand without claims
 abbrev pub BareChainAnnotates : Type 0

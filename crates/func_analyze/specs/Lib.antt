@@ -8,4 +8,5 @@ pub mod RoundLaws
 pub mod Rounds
 pub mod Solution
 pub mod SolutionLaws
+pub mod TypeAnalysis
 pub mod Worklist

@@ -12,7 +12,7 @@ mod worklist;
 
 pub use laws::{
     annotated_is_faithful, annotated_is_unique, bare_chain_annotates, chain_annotates,
-    chain_is_least, facts_are_true, second_is_faithful, second_is_unique,
+    chain_is_least, facts_are_true, frames_lie, second_is_faithful, second_is_unique,
 };
 pub use problem::Problem;
 pub use round_laws::{facts_never_rise, lower_facts_lower_round};
