@@ -1,7 +1,5 @@
 -- The facts after any number of rounds are true in every run, and each frame lies in the least solution under them.
-use Rattle.std.proofs.Common.{◌≡◌, ◌⊎◌, inl, inr, ℕ, zero, suc, ◌+◌, refl, sym, ◌∙◌, ap, subst, Bool, true, false, nat_eq, ◌==◌, cond, Option, Some, None, List, [], ◌∷◌, ◌++◌, map, flat_map, reverse, replicate, slice_get, length, arith}
-use Rattle.std.specs.Cmp.Lexicographic.{pointwise}
-use Rattle.std.proofs.lemmas.Bool.Decides.{Decides-eqb}
+use Rattle.std.proofs.Common.{◌≡◌, ◌⊎◌, inl, inr, ℕ, zero, suc, refl, sym, ◌∙◌, ap, subst, true, false, Some, List, [], ◌∷◌, ◌++◌, map, flat_map, reverse, replicate, slice_get, length, arith}
 use Rattle.std.proofs.lemmas.Option.{slice_get_within}
 use Rattle.std.proofs.lemmas.List.{length-map}
 use Rattle.hack_values.specs.declared.cell.Cell.{Cell}
@@ -15,14 +13,14 @@ use Rattle.hhbc_repo.specs.declared.repo.Class.{Class}
 use Rattle.hhbc_repo.specs.Linked.{Linked}
 use Rattle.hhbc_repo.specs.Bodies.{built_in_tree, built_in_counts, own_from, bodies, body_at, tree_of, property_counts, properties_of}
 use Rattle.hhbc_repo.specs.Bare.{bare, bare_class, bare_property}
-use Rattle.hhbc_repo.specs.Outcome.{WrongCount}
 use Rattle.hhbc_repo.specs.Machine.{World, Frame, turn}
 use Rattle.hhbc_repo.specs.Steps.{Config, Running, Ended, steps_by}
-use Rattle.hhbc_repo.specs.Run.{after, entered, no_world, function_from, start_in, start}
+use Rattle.hhbc_repo.specs.Run.{after, entered, start}
 use Rattle.hhbc_repo.specs.Soundness.{At, Lies, Waiting, Sound, Solve, IsRoundBy, AreByRounds, Starts}
 use Rattle.hhbc_repo.specs.Soundness as soundness
 use Rattle.hhbc_repo.specs.Tested.{IsStopped}
 use Rattle.hhbc_repo.specs.Truth.{Facts, HoldIn, TrueOf, each}
+use Rattle.hhbc_repo.proofs.Starting.{starts}
 use Rattle.hhbc_repo.proofs.StaysTrue.{rounds_stay_true}
 use Rattle.hhbc_repo.proofs.Stripped.{same_start}
 use Rattle.hhbc_repo.proofs.TestedRuns.{tests_only_stop, after_steps}
@@ -39,54 +37,16 @@ use Rattle.func_analyze.proofs.TypeLaws.{each_at, type_laws, entered_lies}
 all_cells : (k n : ℕ) (t : HType) → slice_get (each (replicate k cell)) n ≡ Some (Some t) → t ≡ cell
 all_cells k n t e = same_cell k n t (each_at (replicate k cell) n t e)
 
--- the function of a name is one of the bodies
-named_at : (first : ℕ) (bs : List Body) (name : List ℕ) (e : ℕ × Body) → function_from first bs name ≡ Some e
-    → (i : ℕ) × (e.0 ≡ first + i) × (slice_get bs i ≡ Some e.1)
-named_at first [] name e is = absurd (cc)
-named_at first (b ∷ bs) name e is = by_name (pointwise nat_eq b.name name) is (λ k. named_at (suc first) bs name e k)
-  where
-    by_name : (t : Bool) → cond t (Some (first, b)) (function_from (suc first) bs name) ≡ Some e
-        → (function_from (suc first) bs name ≡ Some e → (i : ℕ) × (e.0 ≡ suc first + i) × (slice_get bs i ≡ Some e.1))
-        → (i : ℕ) × (e.0 ≡ first + i) × (slice_get (b ∷ bs) i ≡ Some e.1)
-    by_name true is ih =
-        let k : (first, b) ≡ e = cc in
-        (0, ap (λ (x : ℕ × Body). x.0) (sym k) ∙ omega arith, ap (λ (x : ℕ × Body). Some x.1) k)
-    by_name false is ih = let w = ih is in (suc w.0, w.1 ∙ omega arith, w.2)
-
-in_front : {A : Type 0} (xs ys : List A) (i : ℕ) (x : A) → slice_get xs i ≡ Some x → slice_get (xs ++ ys) i ≡ Some x
-in_front [] ys i x e = absurd (cc)
-in_front (y ∷ xs) ys zero x e = e
-in_front (y ∷ xs) ys (suc i) x e = in_front xs ys i x e
-
 module _ (r : Linked) where
-  function_at : (name : List ℕ) (e : ℕ × Body) → function_from 0 r.functions name ≡ Some e → body_at r e.0 ≡ Some e.1
-  function_at name e is =
-      let w = named_at 0 r.functions name e is in
-      let k : e.0 ≡ w.0 = w.1 ∙ omega arith in
-      subst (λ n. slice_get (bodies r) n ≡ Some e.1) (sym k) (in_front r.functions _ w.0 e.1 w.2)
-
   nothing_held : (G : Facts) → HoldIn r (each G.props) []
   nothing_held G n o e = absurd (cc)
 
-  starts_counted : (e : ℕ × Body) (args : List Cell) → body_at r e.0 ≡ Some e.1 → (t : Bool) → (length args == e.1.params) ≡ t
-      → Starts r (by_types r) (cond t (Running (entered e.0 e.1 args) [] no_world) (Ended WrongCount no_world))
-  starts_counted e args is true k = (
-    refl,
-    (e.1, is),
-    refl,
-    subst (λ o. Inhabits (tree_of r) (entered e.0 e.1 args) [] (entry_in o)) (sym is)
-        (entered_lies (tree_of r) e.0 e.1 args ((Decides-eqb (length args) e.1.params).0 k)),
-    nothing_held,
-  )
-  starts_counted e args is false k = (λ why i. absurd (cc), nothing_held)
+  enters : (n : ℕ) (b : Body) (args : List Cell) → body_at r n ≡ Some b → length args ≡ b.params
+      → Inhabits (tree_of r) (entered n b args) [] (entry_in (body_at r n))
+  enters n b args is e = subst (λ o. Inhabits (tree_of r) (entered n b args) [] (entry_in o)) (sym is) (entered_lies (tree_of r) n b args e)
 
-  starts_in : (o : Option (ℕ × Body)) (args : List Cell) → ((e : ℕ × Body) → o ≡ Some e → body_at r e.0 ≡ Some e.1)
-      → Starts r (by_types r) (start_in o args)
-  starts_in None args h = (λ why i. absurd (cc), nothing_held)
-  starts_in (Some e) args h = starts_counted e args (h e refl) (length args == e.1.params) refl
-
-  starts : (entry : List ℕ) (args : List Cell) → Starts r (by_types r) (start r entry args)
-  starts entry args = starts_in (function_from 0 r.functions entry) args (function_at entry)
+  starts_here : (entry : List ℕ) (args : List Cell) → Starts r (by_types r) (start r entry args)
+  starts_here entry args = starts r (by_types r) nothing_held enters entry args
 
   -- the first facts are true of everything
   top_true : (c : Config) → soundness.TrueOf r (by_types r) (top r) c
@@ -142,12 +102,12 @@ module _ (r : Linked) where
   steps_true : (n : ℕ) (F : Facts) → IsFacts r n F → (entry : List ℕ) (args : List Cell) (m : ℕ)
       → soundness.TrueOf r (by_types r) F (steps_by (λ f w. turn r f w) r (start r entry args) m)
   steps_true n F is entry args m =
-      (rounds_stay_true by_types r (type_laws r) (top r) top_true (start r entry args) (starts entry args) n F (by_rounds n F is)).0 m
+      (rounds_stay_true by_types r (type_laws r) (top r) top_true (start r entry args) (starts_here entry args) n F (by_rounds n F is)).0 m
 
   steps_sound : (n : ℕ) (F : Facts) → IsFacts r n F → (Ts : List Table) → AreLeast r F Ts → (entry : List ℕ) (args : List Cell) (m : ℕ)
       → Sound r (by_types r) Ts no_facts (steps_by (λ f w. turn r f w) r (start r entry args) m)
   steps_sound n F is Ts l entry args m =
-      (rounds_stay_true by_types r (type_laws r) (top r) top_true (start r entry args) (starts entry args) n F (by_rounds n F is)).1 Ts no_facts
+      (rounds_stay_true by_types r (type_laws r) (top r) top_true (start r entry args) (starts_here entry args) n F (by_rounds n F is)).1 Ts no_facts
       (round_for_none F Ts l) m
 
   lies_in : (Ts : List Table) (f : Frame) (w : World) → Lies r (by_types r) Ts f w → LiesIn r Ts f w.heap

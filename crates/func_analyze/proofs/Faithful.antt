@@ -20,7 +20,8 @@ use Rattle.hhbc_repo.specs.Run.{test, asserts_in, asserts_of, tested, advance, a
 use Rattle.hhbc_repo.specs.Shapes.{Types}
 use Rattle.hhbc_repo.specs.Truth.{Facts, HoldIn, ReturnsIn, ClaimsHold, IsFaithful, stated_props, stated_returns}
 use Rattle.hhbc_repo.proofs.FirstForm.{only, first_is, built_in_transitive}
-use Rattle.hhbc_repo.proofs.Steady.{only_at, first_form_never_sticks}
+use Rattle.hhbc_repo.proofs.LocalCodes.{first_form_never_sticks}
+use Rattle.hhbc_repo.proofs.OneBody.{only_at}
 use Rattle.abstract_step.specs.Flow.{flow}
 use Rattle.abstract_step.proofs.Rows.{Fits}
 use Rattle.func_analyze.specs.Solution.{Table, IsSolution}

@@ -5,7 +5,7 @@ use Rattle.hhbc_repo.specs.declared.body.Body.{Body}
 use Rattle.hhbc_repo.specs.declared.body.Position.{Position}
 use Rattle.hhbc_repo.specs.Bare.{bare, bare_body, bare_position}
 use Rattle.hhbc_repo.specs.Truth.{IsFaithful}
-use Rattle.hhbc_repo.proofs.Steady.{second_form_never_sticks}
+use Rattle.hhbc_repo.proofs.LocalCodes.{second_form_never_sticks}
 use Rattle.hhbc_repo.proofs.Stripped.{bare_again, runs_as_bare, bare_is_first_form}
 use Rattle.func_analyze.specs.Rounds.{IsFacts, AreLeast}
 use Rattle.func_analyze.specs.Annotated.{annotated, IsAnnotated}

@@ -16,7 +16,7 @@ use Rattle.hhbc_repo.specs.Machine.{World, Frame, Turn, Goes, Calls, Returns, Ra
 use Rattle.hhbc_repo.specs.Steps.{Config, Running, Ended, finish, next}
 use Rattle.hhbc_repo.specs.Run.{advance, after, entered, no_world, start_in, start}
 use Rattle.hhbc_repo.proofs.FirstForm.{only}
-use Rattle.hhbc_repo.proofs.Steady.{only_at, turn_is, uncaught_here}
+use Rattle.hhbc_repo.proofs.OneBody.{only_at, turn_is, uncaught_here}
 use Rattle.abstract_step.specs.State.{State, entry_state}
 use Rattle.abstract_step.specs.Flow.{flow}
 use Rattle.abstract_step.proofs.Rows.{Lies, LiesBehind, Fits, fits_code}

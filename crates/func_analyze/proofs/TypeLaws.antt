@@ -21,7 +21,7 @@ use Rattle.hhbc_repo.specs.Growth.{HeapGrows, WorldGrows}
 use Rattle.hhbc_repo.specs.Machine.{World, Frame, Turn, Goes, Calls, Returns, Raises, Ends, Fails, Sticks, exception, perform_code, turn_in}
 use Rattle.hhbc_repo.specs.Steps.{handler_in}
 use Rattle.hhbc_repo.specs.Run.{entered}
-use Rattle.hhbc_repo.specs.Soundness.{Led, GoesWith, Laws}
+use Rattle.hhbc_repo.specs.Soundness.{MayThrowAt, Led, GoesWith, Laws}
 use Rattle.hhbc_repo.specs.Truth.{Facts, HoldIn, each}
 use Rattle.hhbc_repo.proofs.Growing.{cell_in-grows, AreMembers-grows, append_grows, appended_class, appended_is}
 use Rattle.abstract_step.specs.State.{State, StateLe, is_alive, entry_state}
@@ -30,7 +30,7 @@ use Rattle.abstract_step.specs.Laws.{Lies, LiesBehind, Fits}
 use Rattle.abstract_step.proofs.StateOrder.{AreMembers-le, together}
 use Rattle.abstract_step.proofs.Rows.{fits_code}
 use Rattle.func_analyze.specs.Rounds.{initial_types}
-use Rattle.func_analyze.specs.TypeAnalysis.{MayThrowAt, by_types}
+use Rattle.func_analyze.specs.TypeAnalysis.{by_types}
 use Rattle.func_analyze.proofs.ClassChains.{classes_are_transitive}
 use Rattle.func_analyze.proofs.Raising.{Does, does_code}
 

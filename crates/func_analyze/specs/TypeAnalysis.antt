@@ -4,17 +4,15 @@ use Rattle.hack_values.specs.declared.cell.Cell.{Cell}
 use Rattle.type_lattice.specs.declared.types.HType.{HType}
 use Rattle.type_lattice.specs.Order.{Le}
 use Rattle.type_lattice.specs.Member.{Heap, cell_in}
-use Rattle.hhbc_repo.specs.declared.code.Code.{Code}
 use Rattle.hhbc_repo.specs.declared.body.Body.{Body}
 use Rattle.hhbc_repo.specs.Linked.{Linked}
-use Rattle.hhbc_repo.specs.Bodies.{body_at, code_at, tree_of}
+use Rattle.hhbc_repo.specs.Bodies.{body_at, tree_of}
 use Rattle.hhbc_repo.specs.Bare.{bare}
-use Rattle.hhbc_repo.specs.Codes.{throws}
 use Rattle.hhbc_repo.specs.Growth.{WorldGrows}
 use Rattle.hhbc_repo.specs.Machine.{Frame, turn}
 use Rattle.hhbc_repo.specs.Steps.{Config, Running, Ended}
 use Rattle.hhbc_repo.specs.Run.{state_after}
-use Rattle.hhbc_repo.specs.Soundness.{Analysis}
+use Rattle.hhbc_repo.specs.Soundness.{Analysis, MayThrowAt}
 use Rattle.hhbc_repo.specs.Truth.{Facts, HoldIn, AreArguments, each}
 use Rattle.abstract_step.specs.State.{State, StateLe, entry_state}
 use Rattle.abstract_step.specs.Flow.{flow, exception_type}
@@ -25,14 +23,6 @@ use Rattle.func_analyze.specs.Rounds.{initial_types, AreLeast, IsFacts}
 abbrev pub entry_in : Option Body → State
 entry_in None = record { locals = []; stack = []; iters = [] }
 entry_in (Some b) = entry_state b
-
--- the code at the position may throw
-pub record MayThrowAt (r : Linked) (n p : ℕ) : Type 0 where
-  pub body : Body
-  pub at : body_at r n ≡ Some body
-  pub code : Code
-  pub there : code_at body p ≡ Some code
-  pub may : throws code ≡ true
 
 -- the second facts are above the types of initial values and above what the state at the position writes under the first
 pub record AreTaken (r : Linked) (F : Facts) (n p : ℕ) (s : State) (G : Facts) : Type 0 where

@@ -1,8 +1,12 @@
 pub mod FirstForm
 pub mod Growing
+pub mod LocalCodes
+pub mod OneBody
 pub mod SampleTrue
+pub mod ShapeLaws
+pub mod ShapeTables
+pub mod Starting
 pub mod StaysTrue
-pub mod Steady
 pub mod Stripped
 pub mod TestedRuns
 pub mod Walking

@@ -1,11 +1,13 @@
 -- Facts that are true in a run stay true after a round.
-use Rattle.std.proofs.Common.{◌≡◌, ℕ, zero, suc, refl, sym, subst, Bool, true, false, nat_le, Option, Some, None, List, [], ◌∷◌, length, cond}
+use Rattle.std.proofs.Common.{◌≡◌, ℕ, zero, suc, refl, sym, subst, Bool, true, false, nat_le, Option, Some, None, List, [], ◌∷◌, slice_get, length, cond}
 use Rattle.hack_values.specs.declared.cell.Cell.{Cell}
+use Rattle.hack_values.specs.declared.cell.Cell.TheVariants as cells
+use Rattle.hack_values.specs.declared.heap.Object.{Object}
+use Rattle.type_lattice.specs.Member.{Heap}
 use Rattle.hhbc_repo.specs.Linked.{Linked}
-use Rattle.hhbc_repo.specs.Outcome.{Place, Fatal, Frames}
+use Rattle.hhbc_repo.specs.Outcome.{Place, Why, Stuck, Fatal, Frames}
 use Rattle.hhbc_repo.specs.Machine.{World, Frame, Turn, Goes, Calls, Returns, Raises, Ends, Fails, Sticks}
-use Rattle.hhbc_repo.specs.Steps.{Config, Running, Ended, place_of, after_call, caught, resume, unwind, give, frame_limit, finish, next_by, steps_by}
-use Rattle.hhbc_repo.proofs.Steady.{never_stuck}
+use Rattle.hhbc_repo.specs.Steps.{Config, Running, Ended, place_of, after_call, caught, uncaught, uncaught_cell, resume, unwind, give, frame_limit, finish, next_by, steps_by}
 use Rattle.hhbc_repo.specs.Soundness.{Analysis, world_of, CallsBody, At, Led, GoesWith, Laws, IsRoundBy, AreByRounds, TrueOf, Lies, Waiting, Sound, Starts, FactsStayTrue, RoundsStayTrue}
 
 -- a turn that calls a body, as a turn
@@ -15,6 +17,20 @@ called_by b (Calls g v) h = (g, v, refl, h)
 called_by b (Returns c v) h = absurd h
 called_by b (Raises e v) h = absurd h
 called_by b (Ends e v) h = absurd h
+
+not_stuck : (o : Option Object) (p : Place) (why : Why) → uncaught o p ≡ Stuck why → ⊥
+not_stuck None p why e = cc
+not_stuck (Some o) p why e = cc
+
+never_stuck : (heap : Heap) (e : Cell) (p : Place) (why : Why) → uncaught_cell heap e p ≡ Stuck why → ⊥
+never_stuck heap cells.Null p why e = cc
+never_stuck heap (cells.Bool b) p why e = cc
+never_stuck heap (cells.Int i) p why e = cc
+never_stuck heap (cells.Str s) p why e = cc
+never_stuck heap (cells.Vec vs) p why e = cc
+never_stuck heap (cells.Dict es) p why e = cc
+never_stuck heap (cells.Keyset ks) p why e = cc
+never_stuck heap (cells.Obj n) p why e = not_stuck (slice_get heap n) p why e
 
 module _ (r : Linked) (A : Analysis) where
   -- what a running or an ended configuration shares

@@ -1,9 +1,11 @@
 -- What may be known of the frames of a machine, and when that stays true of its runs.
-use Rattle.std.specs.Prelude.{◌≡◌, ℕ, zero, suc, List, [], ◌∷◌, Option, Some, slice_get}
+use Rattle.std.specs.Prelude.{◌≡◌, ℕ, zero, suc, true, List, [], ◌∷◌, Option, Some, slice_get}
 use Rattle.hack_values.specs.declared.cell.Cell.{Cell}
+use Rattle.hhbc_repo.specs.declared.code.Code.{Code}
 use Rattle.hhbc_repo.specs.declared.body.Body.{Body}
 use Rattle.hhbc_repo.specs.Linked.{Linked}
-use Rattle.hhbc_repo.specs.Bodies.{body_at}
+use Rattle.hhbc_repo.specs.Bodies.{body_at, code_at}
+use Rattle.hhbc_repo.specs.Codes.{throws}
 use Rattle.hhbc_repo.specs.Outcome.{Outcome, Stuck, Why}
 use Rattle.hhbc_repo.specs.Machine.{World, Frame, Turn, Goes, Calls, Returns, Raises, Ends, Fails, Sticks}
 use Rattle.hhbc_repo.specs.Steps.{Config, Running, Ended, after_call, caught, steps_by}
@@ -50,6 +52,14 @@ world_of (Ends e v) = v
 
 abbrev pub IsBody : Linked → ℕ → Type 0
 IsBody r n = (b : Body) × (body_at r n ≡ Some b)
+
+-- the code at the position of the body may throw
+pub record MayThrowAt (r : Linked) (n p : ℕ) : Type 0 where
+  pub body : Body
+  pub at : body_at r n ≡ Some body
+  pub code : Code
+  pub there : code_at body p ≡ Some code
+  pub may : throws code ≡ true
 
 -- the turn calls this body
 abbrev pub CallsBody : ℕ → Turn → Type 0

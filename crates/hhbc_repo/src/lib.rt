@@ -11,8 +11,8 @@ mod soundness;
 pub use body::{Assert, Body, Position, Region};
 pub use code::{Arm, Base, Code, Final, Imm, Instr, MemberKey, MemberSeq};
 pub use laws::{
-    bare_is_first_form, first_form_never_sticks, runs_as_bare, second_form_never_sticks,
-    types_where_asserted_walks, types_where_it_walks,
+    bare_is_first_form, first_form_never_sticks, local_codes_never_stick, runs_as_bare,
+    second_form_never_sticks, types_where_asserted_walks, types_where_it_walks,
 };
 pub use parts::{
     ArmParts, AssertParts, BaseParts, BodyParts, ClassParts, CodeParts, FinalParts, ImmParts,
