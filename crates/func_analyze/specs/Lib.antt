@@ -4,6 +4,7 @@ pub mod Climb
 pub mod ClimbLaws
 pub mod Laws
 pub mod Problem
+pub mod Results
 pub mod RoundLaws
 pub mod Rounds
 pub mod Solution
