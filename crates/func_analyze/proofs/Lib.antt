@@ -9,7 +9,7 @@ mod FactsTrue
 mod Faithful
 mod Raising
 mod RoundOrder
-mod RoundResults
+pub mod RoundResults
 mod Sound
 mod Trimmed
 mod TypeLaws

@@ -1,6 +1,7 @@
 //! Laws of rounds over a queue, each the contract of a function that does nothing.
 
 ghost use Rattle.round_pool.specs.Queue.{Bodies, QueueGivesRound, EmptyQueueStays, RoundsGiveOne};
+ghost use Rattle.round_pool.specs.ResultRounds.{NothingDepends, ResultRoundsAreFacts};
 
 /// Bodies, what each gives under facts, and the facts on which that depends.
 ///
@@ -28,4 +29,15 @@ pub fn empty_queue_stays<A: Dependents>()
 /// There is one list of facts after each number of rounds, where each body gives one result.
 pub fn rounds_give_one<A: Dependents>()
     ensures { RoundsGiveOne A.bodies }
+{}
+
+/// Rounds by the results of all bodies of a repository, of any of which some may be kept from the
+/// round before, give the facts after so many rounds, whatever names the facts.
+pub fn result_rounds_are_facts<N>()
+    ensures { ResultRoundsAreFacts N }
+{}
+
+/// What a body of codes of constants and locals gives depends on no fact.
+pub fn nothing_depends<N>()
+    ensures { NothingDepends N }
 {}
