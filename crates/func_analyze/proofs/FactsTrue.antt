@@ -64,9 +64,9 @@ module _ (r : Linked) where
         let n = slice_get_within (bodies r) b is.0 is.1 in
         let T = found Ts b (let c = l.count in omega arith) in
         let w = (l.least b T.0 T.1).solution in
-        (w.enters.0, (T.0, T.1, w.enters.1), subst (λ o. StateLe (tree_of r) (entry_in o) w.enters.0) (sym w.at) w.enters.2);
+        (w.solves.enters.0, (T.0, T.1, w.solves.enters.1), subst (λ o. StateLe (tree_of r) (entry_in o) w.solves.enters.0) (sym w.at) w.solves.enters.2);
     closed = λ b p s q t at to.
-        let up = (l.least b at.0 at.1).solution.closed p s at.2 q t to in
+        let up = (l.least b at.0 at.1).solution.solves.closed p s at.2 q t to in
         (up.0, (at.0, at.1, up.1), up.2);
   }
 

@@ -50,7 +50,7 @@ module _ (b : Body) (g : b.regions ≡ []) (F : Facts) (T : Table) (solves : IsS
       let m : Contains (flow (only (bare_body b)) F 0 f.position h.state).to (suc f.position, s.0) =
       subst (λ (to : List (ℕ × State)). Contains to (suc f.position, s.0)) (sym (flow_to b g F f.position q h.state e))
       (behind_in f.position (state_behind q.code (Some h.state)) s.0 s.1) in
-      let a = solves.closed f.position h.state h.at (suc f.position) s.0 m in (
+      let a = solves.solves.closed f.position h.state h.at (suc f.position) s.0 m in (
         refl,
         record {
           body = k.2 ∙ h.body;
@@ -98,7 +98,7 @@ module _ (b : Body) (g : b.regions ≡ []) (F : Facts) (T : Table) (solves : IsS
       → Sound T (cond t (Running (entered 0 b args) [] no_world) (Ended WrongCount no_world))
   sound_counted true args e =
       let k : bare_body b ≡ solves.body = let h = solves.at in cc in
-      let a = subst (λ (c : Body). HasAbove (only (bare_body b)) T 0 (entry_state c)) (sym k) solves.enters in (
+      let a = subst (λ (c : Body). HasAbove (only (bare_body b)) T 0 (entry_state c)) (sym k) solves.solves.enters in (
         refl,
         record {
           body = refl;
