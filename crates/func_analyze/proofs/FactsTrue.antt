@@ -130,10 +130,10 @@ same_counts : (cs : List Class) → map (λ (c : Class). length c.props) (map ba
 same_counts [] = refl
 same_counts (c ∷ cs) = λ i. length-map c.props bare_property i ∷ same_counts cs i
 
-tree_same : (r : Linked) → tree_of (bare r) ≡ tree_of r
+pub tree_same : (r : Linked) → tree_of (bare r) ≡ tree_of r
 tree_same r = ap (λ ps. built_in_tree ++ ps) (same_parents r.classes)
 
-props_same : (r : Linked) (c : ℕ) → properties_of (bare r) c ≡ properties_of r c
+pub props_same : (r : Linked) (c : ℕ) → properties_of (bare r) c ≡ properties_of r c
 props_same r c =
     ap (λ (tree : Tree). flat_map (λ d. own_from 0 (property_counts (bare r)) d) (reverse (chain tree c))) (tree_same r)
     ∙ ap (λ counts. flat_map (λ d. own_from 0 (built_in_counts ++ counts) d) (reverse (chain (tree_of r) c))) (same_counts r.classes)
@@ -151,7 +151,7 @@ true_bare r F (Running f fs w) h = (
 true_bare r F (Ended o w) h = held_bare r F w.heap h
 
 -- the run without tests
-plain_true : (r : Linked) (n : ℕ) (F : Facts) → IsFacts (bare r) n F → (entry : List ℕ) (args : List Cell) (m : ℕ)
+pub plain_true : (r : Linked) (n : ℕ) (F : Facts) → IsFacts (bare r) n F → (entry : List ℕ) (args : List Cell) (m : ℕ)
     → TrueOf r F (after r false (start r entry args) m)
 plain_true r n F is entry args m =
     subst (λ c. TrueOf r F c) (sym (after_steps r (start r entry args) m))
@@ -174,7 +174,7 @@ facts_are_true r n F is entry args true m legal =
     tested_true r n F is entry args m (after r true (start r entry args) m) (tests_only_stop r (start r entry args) m)
 facts_are_true r n F is entry args false m legal = plain_true r n F is entry args m
 
-plain_lie : (r : Linked) (n : ℕ) (F : Facts) → IsFacts (bare r) n F → (Ts : List Table) → AreLeast (bare r) F Ts
+pub plain_lie : (r : Linked) (n : ℕ) (F : Facts) → IsFacts (bare r) n F → (Ts : List Table) → AreLeast (bare r) F Ts
     → (entry : List ℕ) (args : List Cell) (m : ℕ) → FramesLieIn (bare r) Ts (after r false (start r entry args) m)
 plain_lie r n F is Ts l entry args m =
     subst (λ c. FramesLieIn (bare r) Ts c) (sym (after_steps r (start r entry args) m))

@@ -1,3 +1,4 @@
+mod AnnotatedBodies
 mod ChainAnnotated
 mod ChainLeast
 mod ChainProper
@@ -9,10 +10,9 @@ mod FactsTrue
 mod Faithful
 mod Raising
 mod RoundOrder
-pub mod RoundResults
-mod Sound
 mod Trimmed
 mod TypeLaws
 mod Unique
 pub mod Putting
+pub mod RoundResults
 pub mod SecondForm

@@ -13,9 +13,9 @@ pub fn chain_annotates()
     ensures { ChainAnnotates }
 {}
 
-/// A repository of the first form that keeps to its shapes, annotated after any number of rounds
-/// from 1, runs as before with its assertions tested; all its claims are true in every run, and no
-/// run of either is stuck.
+/// Every repository, annotated after any number of rounds, runs as before with its assertions
+/// tested, and all its claims are true in every run; where no run of it is stuck, no run of the
+/// annotated one is.
 pub fn annotated_is_faithful()
     ensures { AnnotatedIsFaithful }
 {}
