@@ -1,7 +1,6 @@
 pub mod FirstForm
 pub mod Growing
 pub mod LocalCodes
-pub mod OneBody
 pub mod SampleTrue
 pub mod ShapeLaws
 pub mod ShapeTables

@@ -24,11 +24,6 @@ top_le (slots.Cell c ∷ rest) s Any l h = tt
 top_le (slots.Cell c ∷ rest) Int Int l h = h
 top_le (slots.Cell c ∷ rest) Any Int l h = absurd l
 
-any_top : (ss : List Slot) → TopIs ss Any
-any_top [] = tt
-any_top (slots.Uninit ∷ rest) = tt
-any_top (slots.Cell c ∷ rest) = tt
-
 module _ (program : Program) (r : Linked) where
   abbrev goes_with : Known → Frame → Kind → World → Turn → Type 0
   goes_with F f s w t = GoesWith r (sample program r) F f s w t
