@@ -155,13 +155,15 @@ solves : (count : ℕ) (b : Body) → b.regions ≡ [] → FitPositions count b.
 solves count b g w F = record {
   body = bare_body b;
   at = refl;
-  count = chain_length b.positions (Some (entry_state b)) ∙ sym (length-map b.positions bare_position);
-  enters = (entry_state b, begins count b.positions (entry_state b) w, StateLe-refl built_in_tree (entry_state b));
-  closed = λ p s e q t m.
-      let x = within b.positions (Some (entry_state b)) p s e in
-      let f = in_behind p (state_behind x.0.code (Some s)) q t (subst (λ (to : List (ℕ × State)). Contains to (q, t)) (flow_to b g F p x.0 s x.1) m) in
-      let n = chain_on count b.positions (Some (entry_state b)) p s t x.0 w e x.1 f.1 in
-      (t, subst (λ k. HasState (chain b.positions (Some (entry_state b))) k t) (sym f.0) n, StateLe-refl built_in_tree t);
+  solves = record {
+    count = chain_length b.positions (Some (entry_state b)) ∙ sym (length-map b.positions bare_position);
+    enters = (entry_state b, begins count b.positions (entry_state b) w, StateLe-refl built_in_tree (entry_state b));
+    closed = λ p s e q t m.
+        let x = within b.positions (Some (entry_state b)) p s e in
+        let f = in_behind p (state_behind x.0.code (Some s)) q t (subst (λ (to : List (ℕ × State)). Contains to (q, t)) (flow_to b g F p x.0 s x.1) m) in
+        let n = chain_on count b.positions (Some (entry_state b)) p s t x.0 w e x.1 f.1 in
+        (t, subst (λ k. HasState (chain b.positions (Some (entry_state b))) k t) (sym f.0) n, StateLe-refl built_in_tree t);
+  };
 }
 
 below_all : (count : ℕ) (b : Body) → b.regions ≡ [] → FitPositions count b.positions → (F : Facts) (U : Table) → IsSolution (only (bare_body b)) F 0 U
@@ -170,7 +172,7 @@ below_all count b g w F U h zero s e =
     let k = begins count b.positions (entry_state b) w in
     let x : entry_state b ≡ s = cc in
     let y : bare_body b ≡ h.body = cc in
-    subst (λ (s : State). HasAbove (only (bare_body b)) U 0 s) x (subst (λ (c : Body). HasAbove (only (bare_body b)) U 0 (entry_state c)) (sym y) h.enters)
+    subst (λ (s : State). HasAbove (only (bare_body b)) U 0 s) x (subst (λ (c : Body). HasAbove (only (bare_body b)) U 0 (entry_state c)) (sym y) h.solves.enters)
 below_all count b g w F U h (suc p) s e =
     let y = chain_back b.positions (Some (entry_state b)) p s e in
     let ih = below_all count b g w F U h p y.state y.at in
@@ -178,7 +180,7 @@ below_all count b g w F U h (suc p) s e =
     let n = leads_on _ _ s le.behind y.leads in
     let m = behind_in p (state_behind y.position.code (Some ih.0)) n.0 n.1 in
     let c = subst (λ (to : List (ℕ × State)). Contains to (suc p, n.0)) (sym (flow_to b g F p y.position ih.0 y.there)) m in
-    let z = h.closed p ih.0 ih.1 (suc p) n.0 c in
+    let z = h.solves.closed p ih.0 ih.1 (suc p) n.0 c in
     (z.0, z.1, StateLe-trans built_in_tree built_in_transitive s n.0 z.0 n.2 z.2)
 
 pub chain_least : (count : ℕ) (b : Body) → b.regions ≡ [] → FitPositions count b.positions → (F : Facts)

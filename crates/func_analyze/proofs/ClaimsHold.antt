@@ -1,5 +1,5 @@
 -- The assertions that a state gives hold of a frame that lies in it, and change no code.
-use Rattle.std.proofs.Common.{◌≡◌, ℕ, zero, suc, refl, sym, ◌∙◌, ap, subst, Bool, true, false, Option, Some, None, List, [], ◌∷◌, ◌++◌, map, slice_get, cond}
+use Rattle.std.proofs.Common.{◌≡◌, ℕ, zero, suc, refl, sym, ◌∙◌, ap, subst, Bool, true, false, Option, Some, None, List, [], ◌∷◌, ◌++◌, slice_get, cond}
 use Rattle.hack_values.specs.declared.cell.Slot.{Slot}
 use Rattle.hhbc_ops.specs.declared.words.Flavour.{Flavour}
 use Rattle.type_lattice.specs.declared.types.HType.{HType}
@@ -9,9 +9,7 @@ use Rattle.type_lattice.specs.Whole.{is_whole}
 use Rattle.hhbc_repo.specs.declared.code.Code.{Code}
 use Rattle.hhbc_repo.specs.declared.body.Assert.{Assert}
 use Rattle.hhbc_repo.specs.declared.body.Assert.TheVariants as asserts
-use Rattle.hhbc_repo.specs.declared.body.Body.{Body}
 use Rattle.hhbc_repo.specs.declared.body.Position.{Position}
-use Rattle.hhbc_repo.specs.Bare.{bare_position, bare_body}
 use Rattle.hhbc_repo.specs.Bodies.{asserts_of}
 use Rattle.hhbc_repo.specs.Codes.{reads_locals, pops}
 use Rattle.hhbc_repo.specs.Machine.{Frame}
@@ -20,7 +18,7 @@ use Rattle.abstract_step.specs.State.{State}
 use Rattle.abstract_step.proofs.StateOrder.{BothAt, AreMembers-get}
 use Rattle.abstract_step.proofs.Rows.{Lies}
 use Rattle.func_analyze.specs.Solution.{Table, HasState}
-use Rattle.func_analyze.specs.Annotated.{claim, local_claims, stack_claims, claims, with_claims, annotated_body}
+use Rattle.func_analyze.specs.Annotated.{claim, local_claims, stack_claims, claims, with_claims}
 
 module _ (tree : Tree) (heap : Heap) (f : Frame) where
   chosen_holds : (make : HType → Assert) (t : HType) (b : Bool) → holds tree heap f (make t) ≡ Some true
@@ -69,16 +67,3 @@ module _ (tree : Tree) (heap : Heap) (f : Frame) where
       let k : o ≡ Some s = cc in
       subst (λ (o : Option State). test tree heap f (claims q.code o) ≡ Some true) (sym k) (claims_hold q.code s h)
   claims_at (q ∷ ps) (o ∷ T) (suc p) s e h = claims_at ps T p s e h
-
-bare_claims : (ps : List Position) (T : Table) → map bare_position (with_claims ps T) ≡ map bare_position ps
-bare_claims [] T = refl
-bare_claims (p ∷ ps) [] = ap (λ (qs : List Position). bare_position p ∷ qs) (bare_claims ps [])
-bare_claims (p ∷ ps) (s ∷ T) = ap (λ (qs : List Position). bare_position p ∷ qs) (bare_claims ps T)
-
-bare_twice : (ps : List Position) → map bare_position (map bare_position ps) ≡ map bare_position ps
-bare_twice [] = refl
-bare_twice (p ∷ ps) = ap (λ (qs : List Position). bare_position p ∷ qs) (bare_twice ps)
-
--- without them the annotated body is the original
-pub bare_annotated : (b : Body) (t : Option HType) (T : Table) → bare_body (annotated_body (bare_body b) t T) ≡ bare_body b
-bare_annotated b t T = ap (λ (ps : List Position). record (bare_body b) { positions = ps }) (bare_claims (map bare_position b.positions) T ∙ bare_twice b.positions)

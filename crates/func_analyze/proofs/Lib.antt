@@ -1,3 +1,4 @@
+mod AnnotatedBodies
 mod ChainAnnotated
 mod ChainLeast
 mod ChainProper
@@ -7,8 +8,11 @@ mod ClassChains
 mod Examples
 mod FactsTrue
 mod Faithful
-mod Sound
+mod Raising
+mod RoundOrder
 mod Trimmed
+mod TypeLaws
 mod Unique
 pub mod Putting
+pub mod RoundResults
 pub mod SecondForm

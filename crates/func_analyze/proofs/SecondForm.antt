@@ -4,15 +4,12 @@ use Rattle.hhbc_repo.specs.Linked.{Linked}
 use Rattle.hhbc_repo.specs.declared.body.Body.{Body}
 use Rattle.hhbc_repo.specs.declared.body.Position.{Position}
 use Rattle.hhbc_repo.specs.Bare.{bare, bare_body, bare_position}
-use Rattle.hhbc_repo.specs.Truth.{IsFaithful}
-use Rattle.hhbc_repo.proofs.Steady.{second_form_never_sticks}
-use Rattle.hhbc_repo.proofs.Stripped.{bare_again, runs_as_bare, bare_is_first_form}
+use Rattle.hhbc_repo.proofs.Stripped.{bare_again, bare_is_first_form}
 use Rattle.func_analyze.specs.Rounds.{IsFacts, AreLeast}
 use Rattle.func_analyze.specs.Annotated.{annotated, IsAnnotated}
 use Rattle.func_analyze.specs.Chain.{annotated_by}
-use Rattle.func_analyze.specs.Laws.{AreWords, BareChainAnnotates, SecondIsFaithful, SecondIsUnique}
+use Rattle.func_analyze.specs.Laws.{AreWords, BareChainAnnotates, SecondIsUnique}
 use Rattle.func_analyze.proofs.ChainAnnotated.{chain_annotates}
-use Rattle.func_analyze.proofs.Faithful.{annotated_is_faithful}
 use Rattle.func_analyze.proofs.Unique.{annotated_is_unique}
 
 -- annotation asks only for what is left without claims
@@ -28,17 +25,6 @@ same_bare n r s a h w = record {
 pub bare_chain_annotates : BareChainAnnotates
 bare_chain_annotates r form n =
     same_bare (suc n) (bare r) r (annotated_by (bare r)) (bare_again r) (chain_annotates (bare r) (bare_is_first_form r form).0 n)
-
-pub second_is_faithful : SecondIsFaithful
-second_is_faithful r a form types n w =
-    let first = bare_is_first_form r form in
-    let f : IsFaithful (bare r) a =
-    annotated_is_faithful (bare r) a first.0 (first.1 types) n (same_bare (suc n) r (bare r) a (sym (bare_again r)) w) in
-    record {
-      runs = λ entry args n legal. f.runs entry args n legal ∙ sym (runs_as_bare r entry args n);
-      claims = f.claims;
-      never = (second_form_never_sticks r form types, f.never.1);
-    }
 
 bare_words : (ps : List Position) → AreWords ps → AreWords (map bare_position ps)
 bare_words [] h = tt

@@ -28,9 +28,11 @@ alike : (r : Linked) (F G : Facts) (n : ℕ) (T : Table)
 alike r F G n T from w = record {
   body = w.body;
   at = w.at;
-  count = w.count;
-  enters = w.enters;
-  closed = λ p s e q t m. w.closed p s e q t (from p s q t m);
+  solves = record {
+    count = w.solves.count;
+    enters = w.solves.enters;
+    closed = λ p s e q t m. w.solves.closed p s e q t (from p s q t m);
+  };
 }
 
 least_alike : (r : Linked) (F G : Facts) (n : ℕ) (T : Table)
@@ -141,9 +143,11 @@ trimmed_solves : (r : Linked) (F : Facts) (n : ℕ) (T : Table) → IsSolution r
 trimmed_solves r F n T w = record {
   body = w.body;
   at = w.at;
-  count = trimmed_length T ∙ w.count;
-  enters = above_trimmed r T 0 (entry_state w.body) (entry_is_alive w.body) w.enters;
-  closed = λ p s e q t m. above_trimmed r T q t (flow_is_alive r F n p s q t m) (w.closed p s (was_there T p s e).0 q t m);
+  solves = record {
+    count = trimmed_length T ∙ w.solves.count;
+    enters = above_trimmed r T 0 (entry_state w.body) (entry_is_alive w.body) w.solves.enters;
+    closed = λ p s e q t m. above_trimmed r T q t (flow_is_alive r F n p s q t m) (w.solves.closed p s (was_there T p s e).0 q t m);
+  };
 }
 
 pub least_is_alive : LeastIsAlive
@@ -160,13 +164,15 @@ solves_lower : (r : Linked) (F G : Facts) (n : ℕ) (U : Table) → FactsLe (tre
 solves_lower r F G n U le w = record {
   body = w.body;
   at = w.at;
-  count = trimmed_length U ∙ w.count;
-  enters = above_trimmed r U 0 (entry_state w.body) (entry_is_alive w.body) w.enters;
-  closed = λ p s e q t m.
-      let x = was_there U p s e in
-      let y = (flow_is_monotone r F G n p s s le x.1 (StateLe-refl (tree_of r) s)).to q t m in
-      let z = w.closed p s x.0 q y.0 y.1 in
-      above_trimmed r U q t (flow_is_alive r F n p s q t m) (z.0, z.1, StateLe-trans (tree_of r) (classes_are_transitive (tree_of r)) t y.0 z.0 y.2 z.2);
+  solves = record {
+    count = trimmed_length U ∙ w.solves.count;
+    enters = above_trimmed r U 0 (entry_state w.body) (entry_is_alive w.body) w.solves.enters;
+    closed = λ p s e q t m.
+        let x = was_there U p s e in
+        let y = (flow_is_monotone r F G n p s s le x.1 (StateLe-refl (tree_of r) s)).to q t m in
+        let z = w.solves.closed p s x.0 q y.0 y.1 in
+        above_trimmed r U q t (flow_is_alive r F n p s q t m) (z.0, z.1, StateLe-trans (tree_of r) (classes_are_transitive (tree_of r)) t y.0 z.0 y.2 z.2);
+  };
 }
 
 pub lower_facts_lower_least : LowerFactsLowerLeast
@@ -174,24 +180,16 @@ lower_facts_lower_least r F G n le T U l w p s e =
     let x = l.least (trimmed U) (solves_lower r F G n U le w) p s e in
     (x.0, (was_there U p x.0 x.1).0, x.2)
 
--- a solution of a body and one of its flows
+-- a solution of a body is one of its flows, and the other way round
 as_problem : (r : Linked) (F : Facts) (n : ℕ) (b : Body) → body_at r n ≡ Some b → (T : Table) → IsSolution r F n T
     → IsSolutionOf (StateLe (tree_of r)) (length b.positions) (entry_state b) (λ p s. (flow r F n p s).to) T
 as_problem r F n b e T w =
     let f : Some w.body ≡ Some b = sym w.at ∙ e in
     let g : w.body ≡ b = cc in
-    record {
-      count = w.count ∙ ap (λ (c : Body). length c.positions) g;
-      enters = subst (λ (c : Body). HasAbove r T 0 (entry_state c)) g w.enters;
-      closed = w.closed;
-    }
-
-of_problem : (r : Linked) (F : Facts) (n : ℕ) (b : Body) → body_at r n ≡ Some b → (T : Table)
-    → IsSolutionOf (StateLe (tree_of r)) (length b.positions) (entry_state b) (λ p s. (flow r F n p s).to) T → IsSolution r F n T
-of_problem r F n b e T w = record { body = b; at = e; count = w.count; enters = w.enters; closed = w.closed }
+    subst (λ (c : Body). IsSolutionOf (StateLe (tree_of r)) (length c.positions) (entry_state c) (λ p s. (flow r F n p s).to) T) g w.solves
 
 pub least_of_flows : LeastOfFlows
 least_of_flows r F n b e T = (
-  λ w. record { solution = as_problem r F n b e T w.solution; least = λ U v. w.least U (of_problem r F n b e U v) },
-  λ w. record { solution = of_problem r F n b e T w.solution; least = λ U v. w.least U (as_problem r F n b e U v) },
+  λ w. record { solution = as_problem r F n b e T w.solution; least = λ U v. w.least U (record { body = b; at = e; solves = v }) },
+  λ w. record { solution = record { body = b; at = e; solves = w.solution }; least = λ U v. w.least U (as_problem r F n b e U v) },
 )

@@ -49,7 +49,7 @@ module _ (b : Body) (F : Facts) where
   count_of T h =
       let e = h.solution.at in
       let k : bare_body b ≡ h.solution.body = cc in
-      h.solution.count ∙ ap (λ (c : Body). length c.positions) (sym k)
+      h.solution.solves.count ∙ ap (λ (c : Body). length c.positions) (sym k)
 
   at_place : (T U : Table) → Least T → Least U → (n : ℕ) (x y : Option (Option State)) → slice_get T n ≡ x → slice_get U n ≡ y → x ≡ y
   at_place T U h k n None None e f = refl

@@ -8,7 +8,7 @@ use Rattle.hhbc_repo.specs.Codes.{int_of}
 use Rattle.hhbc_repo.specs.Linked.{Linked}
 use Rattle.hhbc_repo.specs.Form.{IsFirstForm, IsSecondForm}
 use Rattle.hhbc_repo.specs.Bare.{bare}
-use Rattle.hhbc_repo.specs.Truth.{Facts, AreTrue, IsFaithful}
+use Rattle.hhbc_repo.specs.Truth.{Facts, AreTrue, IsNeverStuck, IsFaithful}
 use Rattle.hhbc_repo.specs.Shapes.{Types}
 use Rattle.abstract_step.specs.State.{entry_state}
 use Rattle.func_analyze.specs.Solution.{IsLeast}
@@ -26,9 +26,10 @@ ChainIsLeast =
 abbrev pub ChainAnnotates : Type 0
 ChainAnnotates = (r : Linked) → IsFirstForm r → (n : ℕ) → IsAnnotated (suc n) r (annotated_by r)
 
--- the annotated repository runs as the original does, all its claims are true, and no run of either is stuck
+-- the annotated repository, after any number of rounds, runs as the original does, all its claims are true, and no run of it is stuck where none
+-- of the original is
 abbrev pub AnnotatedIsFaithful : Type 0
-AnnotatedIsFaithful = (r a : Linked) → IsFirstForm r → Types r → (n : ℕ) → IsAnnotated (suc n) r a → IsFaithful r a
+AnnotatedIsFaithful = (r a : Linked) (n : ℕ) → IsAnnotated n r a → IsNeverStuck r → IsFaithful r a
 
 -- an operand that is an int is one of 64 bits, as those of each program are
 abbrev pub IsWord : Code → Type 0
@@ -45,7 +46,7 @@ AnnotatedIsUnique = (r a : Linked) (form : IsFirstForm r) → AreWords form.body
 
 -- the facts after any number of rounds are true in every run
 abbrev pub FactsAreTrue : Type 0
-FactsAreTrue = (r : Linked) → IsFirstForm r → (n : ℕ) (F : Facts) → IsFacts (bare r) n F → AreTrue r F
+FactsAreTrue = (r : Linked) (n : ℕ) (F : Facts) → IsFacts (bare r) n F → AreTrue r F
 
 -- a repository of the second form is annotated along its codes as they stand without claims
 abbrev pub BareChainAnnotates : Type 0

@@ -4,7 +4,10 @@ pub mod Climb
 pub mod ClimbLaws
 pub mod Laws
 pub mod Problem
+pub mod Results
+pub mod RoundLaws
 pub mod Rounds
 pub mod Solution
 pub mod SolutionLaws
+pub mod TypeAnalysis
 pub mod Worklist

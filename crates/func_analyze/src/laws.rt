@@ -1,6 +1,7 @@
 //! Laws of the definitions, each the contract of a function that does nothing.
 
 ghost use Rattle.func_analyze.specs.Laws.{AnnotatedIsFaithful, AnnotatedIsUnique, BareChainAnnotates, ChainAnnotates, ChainIsLeast, FactsAreTrue, SecondIsFaithful, SecondIsUnique};
+ghost use Rattle.func_analyze.specs.TypeAnalysis.{FramesLie};
 
 /// The states along a body without jumps, each made from the one before it, are its least solution.
 pub fn chain_is_least()
@@ -12,9 +13,9 @@ pub fn chain_annotates()
     ensures { ChainAnnotates }
 {}
 
-/// A repository of the first form that keeps to its shapes, annotated after any number of rounds
-/// from 1, runs as before with its assertions tested; all its claims are true in every run, and no
-/// run of either is stuck.
+/// Every repository, annotated after any number of rounds, runs as before with its assertions
+/// tested, and all its claims are true in every run; where no run of it is stuck, no run of the
+/// annotated one is.
 pub fn annotated_is_faithful()
     ensures { AnnotatedIsFaithful }
 {}
@@ -25,9 +26,16 @@ pub fn annotated_is_unique()
     ensures { AnnotatedIsUnique }
 {}
 
-/// The facts after any number of rounds are true in every run of a repository of the first form.
+/// The facts after any number of rounds are true in every run of every repository, whether its
+/// assertions are tested or not.
 pub fn facts_are_true()
     ensures { FactsAreTrue }
+{}
+
+/// In every state of every run each frame, those that wait for a call too, lies in the state that
+/// the least solution has at its position, under the facts after any number of rounds.
+pub fn frames_lie()
+    ensures { FramesLie }
 {}
 
 /// What the states along the codes return and assert is the annotated repository of one of the

@@ -3,6 +3,7 @@
 
 mod laws;
 mod problem;
+mod round_laws;
 mod solution_laws;
 mod tally;
 #[cfg(test)]
@@ -11,9 +12,10 @@ mod worklist;
 
 pub use laws::{
     annotated_is_faithful, annotated_is_unique, bare_chain_annotates, chain_annotates,
-    chain_is_least, facts_are_true, second_is_faithful, second_is_unique,
+    chain_is_least, facts_are_true, frames_lie, second_is_faithful, second_is_unique,
 };
 pub use problem::Problem;
+pub use round_laws::{facts_never_rise, lower_facts_lower_round, results_make_round, results_stay};
 pub use solution_laws::{
     classes_are_transitive, least_is_alive, least_is_by_flows, least_of_flows,
     lower_facts_lower_least,

@@ -1,9 +1,12 @@
 ghost use Rattle.std.specs.Prelude.{◌≤◌, IfOk};
 ghost use Rattle.func_analyze.specs.Climb.{climbs, IsLevel};
+ghost use Rattle.func_analyze.specs.TypeAnalysis.{by_types};
+ghost use Rattle.hhbc_repo.specs.ShapeAnalysis.{by_shapes};
 ghost use Rattle.func_analyze.specs.ClimbLaws.{climb_monotone, climb_leads, level_reflexive, level_transitive, level_enters, level_bounded, level_higher};
 
 use super::*;
 use hack_values::NoMemory;
+use hhbc_repo::{Analysed, facts_stay_true, rounds_stay_true};
 use std::alloc::Global;
 use std::test::Fail;
 
@@ -93,5 +96,28 @@ fn a_loop_and_what_is_not_reached(rt: HostRuntime) -> Result<(), Fail> {
     let table = least(rt.alloc(), &Climb)?;
     let expected = [Some(0), Some(2), Some(2), Some(2), None];
     assert_eq!(rt; table.as_slice(), expected.as_slice());
+    Ok(())
+}
+
+/// Frames by the types of their slots.
+struct ByTypes;
+
+impl Analysed for ByTypes {
+    ghost analysis = { λ r. by_types r };
+}
+
+/// Frames by the shapes of their stacks.
+struct ByShapes;
+
+impl Analysed for ByShapes {
+    ghost analysis = { λ r. by_shapes r };
+}
+
+#[test]
+fn types_and_shapes_are_analyses_of_runs(_rt: HostRuntime) -> Result<(), Fail> {
+    facts_stay_true::<ByTypes>();
+    rounds_stay_true::<ByTypes>();
+    facts_stay_true::<ByShapes>();
+    rounds_stay_true::<ByShapes>();
     Ok(())
 }

@@ -1,5 +1,12 @@
 pub mod FirstForm
-pub mod Steady
-pub mod Walking
+pub mod Growing
+pub mod LocalCodes
+pub mod SampleTrue
+pub mod ShapeLaws
+pub mod ShapeTables
+pub mod Starting
+pub mod StaysTrue
 pub mod Stripped
 mod LinkExamples
+pub mod TestedRuns
+pub mod Walking

@@ -43,6 +43,9 @@ start_from n [] entry args = refl
 start_from n (b ∷ bs) entry args =
     begins (pointwise nat_eq b.name entry) n b (function_from (suc n) bs entry) (function_from (suc n) (map bare_body bs) entry) args (start_from (suc n) bs entry args)
 
+pub same_start : (r : Linked) (entry : List ℕ) (args : List Cell) → start r entry args ≡ start (bare r) entry args
+same_start r entry args = start_from 0 r.functions entry args
+
 same_turn : (r : Linked) (c : Config) → advance r false c ≡ advance (bare r) false c
 same_turn r (Running f fs w) = ap (λ (x : Linked). next x (Running f fs w)) (sym (bare_again r))
 same_turn r (Ended o w) = refl
@@ -52,7 +55,7 @@ same_turns r c d e zero = e
 same_turns r c d e (suc n) = ap (λ (x : Config). advance r false x) (same_turns r c d e n) ∙ same_turn r (after (bare r) false d n)
 
 pub runs_as_bare : RunsAsBare
-runs_as_bare r entry args n = ap (λ (c : Config). result_of c) (same_turns r (start r entry args) (start (bare r) entry args) (start_from 0 r.functions entry args) n)
+runs_as_bare r entry args n = ap (λ (c : Config). result_of c) (same_turns r (start r entry args) (start (bare r) entry args) (same_start r entry args) n)
 
 -- the form of what is left
 bare_one : (count : ℕ) (p : Position) → FitsClaimed count p → FitsPosition count (bare_position p)

@@ -265,9 +265,6 @@ deepest_last (x ∷ xs) y m h k =
     let ih = deepest_last xs y m (omega arith) k in
     omega (arith, ih, h)
 
-pub asserts_none : (b : Body) (p : ℕ) (q : Position) → slice_get b.positions p ≡ Some q → q.asserts ≡ [] → asserts_at b p ≡ []
-asserts_none b p q e f = rw (e, f) refl
-
 pub asserts_are : (b : Body) (p : ℕ) (q : Position) → slice_get b.positions p ≡ Some q → asserts_at b p ≡ q.asserts
 asserts_are b p q e = rw e refl
 

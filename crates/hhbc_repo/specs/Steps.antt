@@ -1,5 +1,5 @@
 -- What a turn does to the frames: calls, returns and exceptions.
-use Rattle.std.specs.Prelude.{ℕ, suc, nat_le, List, [], ◌∷◌, Option, Some, None, option_map, slice_get, length, drop, if◌then◌else◌}
+use Rattle.std.specs.Prelude.{ℕ, zero, suc, nat_le, List, [], ◌∷◌, Option, Some, None, option_map, slice_get, length, drop, if◌then◌else◌}
 use Rattle.hack_values.specs.declared.cell.Cell.{Cell}
 use Rattle.hack_values.specs.declared.cell.Cell.TheVariants as cells
 use Rattle.hack_values.specs.declared.cell.Slot.TheVariants as slots
@@ -84,7 +84,16 @@ finish r f fs (Raises e w) = unwind r (place_of f) (f ∷ fs) e w
 finish r f fs (Ends (Fails name) w) = Ended (Fatal name (place_of f)) w
 finish r f fs (Ends (Sticks why) w) = Ended (Stuck why) w
 
+-- one step of frames that take these turns
+abbrev pub next_by : (Frame → World → Turn) → Linked → Config → Config
+next_by turns r (Running f fs w) = finish r f fs (turns f w)
+next_by turns r (Ended o w) = Ended o w
+
+-- so many steps
+abbrev pub steps_by : (Frame → World → Turn) → Linked → Config → ℕ → Config
+steps_by turns r c zero = c
+steps_by turns r c (suc n) = next_by turns r (steps_by turns r c n)
+
 -- one step
 abbrev pub next : Linked → Config → Config
-next r (Running f fs w) = finish r f fs (turn r f w)
-next r (Ended o w) = Ended o w
+next r c = next_by (turn r) r c

@@ -1,7 +1,15 @@
 //! Laws of the definitions, each the contract of a function that does nothing.
 
 ghost use Rattle.hhbc_repo.specs.Truth.{FirstFormNeverSticks, SecondFormNeverSticks, RunsAsBare, BareIsFirstForm};
+ghost use Rattle.hhbc_repo.specs.ShapeAnalysis.{LocalCodesNeverStick};
 ghost use Rattle.hhbc_repo.specs.Walks.{TypesWhereItWalks, TypesWhereAssertedWalks};
+
+/// No run of a repository that keeps to its shapes meets an underflow, a wrong flavour or a wrong
+/// iterator, where all its codes are those of constants and locals, in any number of bodies and
+/// with handlers, and whether its assertions are tested or not.
+pub fn local_codes_never_stick()
+    ensures { LocalCodesNeverStick }
+{}
 
 /// A repository of the first form keeps to its shapes exactly where each of its codes finds on the
 /// stack what it takes away.

@@ -1,3 +1,5 @@
 pub mod Taking
+pub mod ByResults
 pub mod Giving
 pub mod Joining
+pub mod Queued

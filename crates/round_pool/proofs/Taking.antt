@@ -25,12 +25,3 @@ taken_drop takes place (job ∷ jobs) zero v = rw (add-zero) v
 taken_drop takes place (job ∷ jobs) (suc n) v =
     let P : ℕ → Type 0 = λ k. AllTaken takes k (drop n jobs) in
     subst P (omega arith) (taken_drop takes (place + 1) jobs n v.1)
-
--- jobs that may be done at places that have the property
-pub taken_both : (admits : ℕ → Type 0) (takes : ℕ → ℕ → Type 0) (first : ℕ) (jobs : List ℕ) → ((place : ℕ) → place < length jobs → admits (first + place)) → AllTaken takes first jobs
-    → AllTaken (λ place job. admits place × takes place job) first jobs
-taken_both admits takes first [] all v = v
-taken_both admits takes first (job ∷ jobs) all v = (
-  (subst admits (add-zero first) (all 0 (omega arith)), v.0),
-  taken_both admits takes (first + 1) jobs (λ place below. subst admits (omega arith) (all (place + 1) (omega arith))) v.1,
-)

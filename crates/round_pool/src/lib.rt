@@ -4,11 +4,16 @@
 mod gate;
 mod laws;
 mod piece;
+mod queue_laws;
 mod worker;
 
 pub use gate::{Gate, OpenGate};
 pub use laws::answers_follow_from_the_jobs;
 pub use piece::pieces;
+pub use queue_laws::{
+    Dependents, empty_queue_stays, nothing_depends, queue_gives_round, result_rounds_are_facts,
+    rounds_give_one,
+};
 pub use worker::Worker;
 
 #[cfg(test)]

@@ -105,7 +105,6 @@ pub fn pieces<R: Threads + Sync, G: Gate + Sync, W: Worker + Sync>(
     workers: u32,
     tally: &mut Tally,
 ) -> Result<Vec<W::Answer>, NoMemory>
-    requires gate { (place : ℕ) → place < length jobs.now → G.admits gate.now place }
     requires jobs { AllTaken (W.takes worker.now) 0 jobs.now }
     requires workers { (1 ≤ workers) × (workers ≤ 16) }
     requires places { length jobs.now < 2 ^ 32 }

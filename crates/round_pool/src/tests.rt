@@ -1,4 +1,6 @@
-ghost use Rattle.std.specs.Prelude.{◌≡◌, ◌*◌, ◌<◌, ℕ};
+ghost use Rattle.std.specs.Prelude.{◌≡◌, ◌*◌, ℕ, Bool, false, List, []};
+ghost use Rattle.hhbc_repo.specs.Linked.{Linked};
+ghost use Rattle.round_pool.specs.ResultRounds.{by_results};
 
 use super::*;
 use func_analyze::{Tally, counted};
@@ -50,10 +52,10 @@ impl Remembering {
 }
 
 impl Gate for Remembering {
-    ghost admits = { λ gate place. place < 5 };
-
     fn enter(&self, job: u32) {
-        self.entered[job as usize].fetch_add(1, Ordering::SeqCst);
+        if let Some(entered) = self.entered.get(job as usize) {
+            entered.fetch_add(1, Ordering::SeqCst);
+        }
     }
 }
 
@@ -142,5 +144,22 @@ fn two_workers_do_two_jobs_side_by_side(rt: HostRuntime) -> Result<(), Fail> {
     );
     assert_eq!(rt; answers.as_slice(), [12, 15].as_slice());
     assert_eq!(rt; tally.count(), 2);
+    Ok(())
+}
+
+/// The bodies of a repository without any, whose results depend on no fact.
+struct NoBodies;
+
+impl Dependents for NoBodies {
+    ghost bodies = { by_results ℕ (λ b. []) (λ F G name. false) (record { functions = []; classes = [] }) };
+}
+
+#[test]
+fn bodies_by_results_go_in_rounds(_rt: HostRuntime) -> Result<(), Fail> {
+    queue_gives_round::<NoBodies>();
+    empty_queue_stays::<NoBodies>();
+    rounds_give_one::<NoBodies>();
+    nothing_depends::<u32>();
+    result_rounds_are_facts::<u32>();
     Ok(())
 }

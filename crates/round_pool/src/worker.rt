@@ -41,7 +41,7 @@ pub(crate) struct Gated<'a, G, W> {
 impl<'a, G: Gate, W: Worker> Worker for Gated<'a, G, W> {
     type Answer = W::Answer;
 
-    ghost takes = { λ gated place job. G.admits gated.gate.now place × W.takes gated.worker.now place job };
+    ghost takes = { λ gated place job. W.takes gated.worker.now place job };
 
     ghost gives = { λ gated job answer. W.gives gated.worker.now job answer };
 

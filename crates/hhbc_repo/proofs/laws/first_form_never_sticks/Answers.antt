@@ -1,4 +1,4 @@
-use Rattle.hhbc_repo.proofs.Steady.{first_form_never_sticks}
+use Rattle.hhbc_repo.proofs.LocalCodes.{first_form_never_sticks}
 use Rattle.hhbc_repo.proofs.laws.first_form_never_sticks.Goals as goal
 
 pub returns : goal.returns

@@ -1,0 +1,75 @@
+-- What types say of the frames of a run.
+use Rattle.std.specs.Prelude.{◌≡◌, ℕ, Bool, true, List, [], ◌∷◌, Option, Some, None, slice_get, Contains}
+use Rattle.hack_values.specs.declared.cell.Cell.{Cell}
+use Rattle.type_lattice.specs.declared.types.HType.{HType}
+use Rattle.type_lattice.specs.Order.{Le}
+use Rattle.type_lattice.specs.Member.{Heap, cell_in}
+use Rattle.hhbc_repo.specs.declared.body.Body.{Body}
+use Rattle.hhbc_repo.specs.Linked.{Linked}
+use Rattle.hhbc_repo.specs.Bodies.{body_at, tree_of}
+use Rattle.hhbc_repo.specs.Bare.{bare}
+use Rattle.hhbc_repo.specs.Growth.{WorldGrows}
+use Rattle.hhbc_repo.specs.Machine.{Frame, turn}
+use Rattle.hhbc_repo.specs.Steps.{Config, Running, Ended}
+use Rattle.hhbc_repo.specs.Run.{state_after}
+use Rattle.hhbc_repo.specs.Soundness.{Analysis, MayThrowAt}
+use Rattle.hhbc_repo.specs.Truth.{Facts, HoldIn, AreArguments, each}
+use Rattle.abstract_step.specs.State.{State, StateLe, entry_state}
+use Rattle.abstract_step.specs.Flow.{flow, exception_type}
+use Rattle.abstract_step.specs.Laws.{Lies}
+use Rattle.func_analyze.specs.Solution.{Table, HasState}
+use Rattle.func_analyze.specs.Rounds.{initial_types, AreLeast, IsFacts}
+
+abbrev pub entry_in : Option Body → State
+entry_in None = record { locals = []; stack = []; iters = [] }
+entry_in (Some b) = entry_state b
+
+-- the second facts are above the types of initial values and above what the state at the position writes under the first
+pub record AreTaken (r : Linked) (F : Facts) (n p : ℕ) (s : State) (G : Facts) : Type 0 where
+  pub initial : (q : ℕ) (t u : HType) → slice_get (initial_types r) q ≡ Some t → slice_get G.props q ≡ Some u → Le (tree_of r) t u
+  pub written : (q : ℕ) (t u : HType) → Contains (flow r F n p s).effects (record { property = q; type = t }) → slice_get G.props q ≡ Some u
+      → Le (tree_of r) t u
+
+-- frames lie in the types of states, and facts are types of what bodies return and properties hold
+abbrev pub by_types : Linked → Analysis
+by_types r = record {
+  turn = λ f w. turn r f w;
+  State = State;
+  Facts = Facts;
+  StateLe = λ s t. StateLe (tree_of r) s t;
+  Grows = WorldGrows;
+  Holds = λ f s w. Lies (tree_of r) f w.heap s;
+  Shares = λ F w. HoldIn r (each F.props) w.heap;
+  MayReturn = λ F n c w. (t : HType) → slice_get (each F.returns) n ≡ Some (Some t) → cell_in (tree_of r) w.heap c t ≡ true;
+  IsRaised = λ c w. cell_in (tree_of r) w.heap c exception_type ≡ true;
+  MayThrow = λ n p. MayThrowAt r n p;
+  MayStick = λ n p s why. Unit {0};
+  entry = λ n. entry_in (body_at r n);
+  Flows = λ F n p s q t. Contains (flow r F n p s).to (q, t);
+  Gives = λ F n p s c w. cell_in (tree_of r) w.heap c (flow r F n p s).returned ≡ true;
+  Takes = λ F n p s G. AreTaken r F n p s G;
+}
+
+-- the frame lies in the state that its body's table has at its position
+pub record LiesIn (r : Linked) (Ts : List Table) (f : Frame) (heap : Heap) : Type 0 where
+  pub table : Table
+  pub at : slice_get Ts f.body ≡ Some table
+  pub state : State
+  pub reached : HasState table f.position state
+  pub lies : Lies (tree_of r) f heap state
+
+abbrev pub AllLieIn : Linked → List Table → List Frame → Heap → Type 0
+AllLieIn r Ts [] heap = Unit {0}
+AllLieIn r Ts (f ∷ fs) heap = LiesIn r Ts f heap × AllLieIn r Ts fs heap
+
+-- all frames do, those that wait for a call too
+abbrev pub FramesLieIn : Linked → List Table → Config → Type 0
+FramesLieIn r Ts (Running f fs w) = AllLieIn r Ts (f ∷ fs) w.heap
+FramesLieIn r Ts (Ended o w) = Unit {0}
+
+-- in every state of every run each frame lies in the least solution under the facts after any number of rounds
+abbrev pub FramesLie : Type 0
+FramesLie =
+    (r : Linked) (n : ℕ) (F : Facts) → IsFacts (bare r) n F → (Ts : List Table) → AreLeast (bare r) F Ts
+    → (entry : List ℕ) (args : List Cell) (asserted : Bool) (m : ℕ) → AreArguments args
+    → FramesLieIn (bare r) Ts (state_after r entry args asserted m)

@@ -1,0 +1,25 @@
+//! Laws of rounds, each the contract of a function that does nothing.
+
+ghost use Rattle.func_analyze.specs.Results.{ResultsMakeRound, ResultsStay};
+ghost use Rattle.func_analyze.specs.RoundLaws.{FactsNeverRise, LowerFactsLowerRound};
+
+/// Under lower facts a round gives lower facts, where those above are proper.
+pub fn lower_facts_lower_round()
+    ensures { LowerFactsLowerRound }
+{}
+
+/// Facts never rise from round to round: where all of them are proper, and all that the first round
+/// returns or writes are cells.
+pub fn facts_never_rise()
+    ensures { FactsNeverRise }
+{}
+
+/// What each body gives, joined over all bodies, is what a round gives.
+pub fn results_make_round()
+    ensures { ResultsMakeRound }
+{}
+
+/// What a body of codes of constants and locals gives is the same under all facts.
+pub fn results_stay()
+    ensures { ResultsStay }
+{}
