@@ -15,6 +15,7 @@ pub use laws::{
 };
 pub use parts::{
     ArmParts, AssertParts, BaseParts, BodyParts, ClassParts, CodeParts, FinalParts, ImmParts,
-    InstrParts, ItemParts, MemberKeyParts, MemberSeqParts, PositionParts, PropertyParts, TypeParts,
+    InstrParts, ItemParts, MemberKeyParts, MemberSeqParts, Parts, PositionParts, PropertyParts,
+    TypeParts,
 };
 pub use repo::{Class, Const, Property, Repo};
