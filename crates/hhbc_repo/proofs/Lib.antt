@@ -2,3 +2,4 @@ pub mod FirstForm
 pub mod Steady
 pub mod Walking
 pub mod Stripped
+pub mod SyntaxExamples
