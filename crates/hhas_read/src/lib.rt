@@ -1,0 +1,6 @@
+//! Reads texts.
+#![tactic(auto)]
+
+mod reader;
+
+pub use reader::{Piece, Reader, Stop};
