@@ -2,5 +2,6 @@
 #![tactic(auto)]
 
 mod reader;
+mod singles;
 
 pub use reader::{Piece, Reader, Stop};
