@@ -2,7 +2,7 @@
 use Rattle.std.proofs.Common.{◌≡◌, true, ◌&&◌, [], ◌∷◌, ◌++◌, refl, sym, ap, ◌∙◌}
 use Rattle.hhas_lex.specs.Tokens.{Token}
 use Rattle.hhbc_repo.specs.Languages.{Lang}
-use Rattle.hhas_read.specs.Reading.{Placed, Past, Follow, StuckAt, Taken, next, may_stand}
+use Rattle.hhas_read.specs.Reading.{Placed, Past, Follow, StuckAt, Taken, Just, next, may_stand}
 use Rattle.hhas_read.proofs.Resuming.{past_none}
 use Rattle.hhas_read.proofs.Joining.{Lawful}
 
@@ -41,3 +41,22 @@ module _ {V : Type 0} (k : V → Token) (P : V → Type 0) where
 
   pub guarded_taken : (F : Follow) (p q : Placed) (v : V) → next p ≡ k v → P v → Past (next p ∷ []) p q → F (next q) ≡ true → Taken F Guarded p q v
   guarded_taken F p q v e fits past follows = record { used = next p ∷ []; past = past; word = (ap (λ t. t ∷ []) e, fits); follows = follows }
+
+-- ---- a token without a value
+
+pub just_stuck : (F : Follow) (t : Token) → may_stand t ≡ true → (p : Placed) → (next p ≡ t → ⊥) → StuckAt F (Just t) p p
+just_stuck F t e p other = record {
+  read = [];
+  past = past_none p;
+  viable = record { more = t ∷ []; value = tt; word = refl; proper = ap (λ c. c && true) e };
+  dead = λ w u x y n o d. other (sym (cc (d, ap (λ l. l ++ x) n)));
+}
+
+pub just_taken : (F : Follow) (t : Token) (p q : Placed) → next p ≡ t → Past (next p ∷ []) p q → F (next q) ≡ true → Taken F (Just t) p q tt
+just_taken F t p q e past follows = record { used = next p ∷ []; past = past; word = ap (λ t. t ∷ []) e; follows = follows }
+
+pub just_lawful : (F : Follow) (t : Token) → may_stand t ≡ true → Lawful F (Just t)
+just_lawful F t e = record {
+  same = λ a b x y u w n m o p d. (n ∙ sym m, refl);
+  some = record { more = t ∷ []; value = tt; word = refl; proper = ap (λ c. c && true) e };
+}

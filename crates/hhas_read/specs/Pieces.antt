@@ -35,3 +35,8 @@ IsInner tokens.Bad = ⊥
 abbrev pub told : List ℕ → Option spans.Token → Token
 told text None = tokens.Bad
 told text (Some t) = meaning text t
+
+-- the value of a string, or the token is none
+abbrev pub IsValue : Option (List ℕ) → Token → Type 0
+IsValue (Some v) t = t ≡ tokens.Str v
+IsValue None t = (s : List ℕ) → t ≡ tokens.Str s → ⊥

@@ -1,6 +1,6 @@
 -- What it is to read a word of a language from the front of tokens, and to stop at the first token at which the tokens so far
 -- are the front of no word.
-use Rattle.std.specs.Prelude.{◌≡◌, ℕ, Bool, true, List, [], ◌∷◌, ◌++◌, length, drop, Result, Ok, Err}
+use Rattle.std.specs.Prelude.{◌≡◌, ℕ, Bool, true, false, List, [], ◌∷◌, ◌++◌, length, drop, Result, Ok, Err}
 use Rattle.std.specs.List.{list_all}
 use Rattle.hhas_lex.specs.Tokens.{Token, End, front}
 use Rattle.hhas_lex.specs.Spelling.{is_proper}
@@ -57,6 +57,15 @@ pub record Taken {V : Type 0} (F : Follow) (N : Lang V) (old new : Placed) (v : 
   pub past : Past used old new
   pub word : N used v
   pub follows : F (next new) ≡ true
+
+-- one token, without a value
+abbrev pub Just : Token → Lang (Unit {0})
+Just t ts u = ts ≡ t ∷ []
+
+-- whether the next token is this one
+abbrev pub IsNext : Token → Placed → Bool → Type 0
+IsNext t p true = next p ≡ t
+IsNext t p false = next p ≡ t → ⊥
 
 abbrev pub Reads : {V : Type 0} → Follow → Lang V → Placed → Result V Stop → Placed → Type 0
 Reads F N old (Ok v) new = Taken F N old new v

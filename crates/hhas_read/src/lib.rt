@@ -1,6 +1,7 @@
 //! Reads texts.
 #![tactic(auto)]
 
+mod fixed;
 mod reader;
 mod singles;
 

@@ -1,12 +1,13 @@
 //! The tokens of a text from its front, the next one in sight.
 
-ghost use Rattle.std.specs.Prelude.{◌≡◌, ◌≤◌, ◌<◌, ◌^◌, [], ◌∷◌, length, drop, IfSome};
+ghost use Rattle.std.specs.Prelude.{◌≡◌, ◌≤◌, ◌<◌, ◌^◌, [], ◌∷◌, length, drop, IfOk, IfSome};
 ghost use Rattle.hhas_lex.specs.Tokens.{left, left_places, tokens, places, token_of, followed};
-ghost use Rattle.hhas_read.specs.Pieces.{Says, IsInner, told};
+ghost use Rattle.hhas_read.specs.Pieces.{Says, IsInner, IsValue, told};
 ghost use Rattle.hhas_read.specs.Reading.{Past, next};
 
-use hack_values::NoMemory;
-use hhas_lex::{Lexer, Token, TokenKind};
+use hack_values::{NoMemory, Text};
+use hhas_lex::{Lexer, Token, TokenKind, string_value};
+use std::alloc::Global;
 use std::marker::Model;
 
 /// Why no more was read: the next token leads to no text, or there is no memory.
@@ -152,5 +153,22 @@ impl<'a> Reader<'a> {
         let ahead = look(&mut self.lexer);
         self.ahead = ahead.token;
         self.start = ahead.start;
+    }
+
+    /// The value of the next token, if it is a string.
+    pub fn value(&self, alloc: Global) -> Result<Option<Text>, NoMemory>
+        ensures { IfOk result (λ value. IsValue value (next self.now)) }
+    {
+        match self.ahead {
+            Some(token) => {
+                if token.kind == TokenKind::Str {
+                    let value = string_value(alloc, self.text, token)?;
+                    Ok(Some(value))
+                } else {
+                    Ok(None)
+                }
+            }
+            None => Ok(None),
+        }
     }
 }

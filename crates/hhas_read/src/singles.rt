@@ -78,4 +78,15 @@ impl<'a> Reader<'a> {
             Err(stop) => Err(stop),
         }
     }
+
+    /// The value of a string.
+    pub fn string(&mut self, alloc: Global) -> Result<Text, Stop>
+        ensures { Reads any AString self.old result self.new }
+    {
+        let Some(value) = self.value(alloc)? else {
+            return Err(Stop::Syntax);
+        };
+        self.skip();
+        Ok(value)
+    }
 }
