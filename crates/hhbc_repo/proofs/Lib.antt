@@ -10,3 +10,4 @@ pub mod Stripped
 mod LinkExamples
 pub mod TestedRuns
 pub mod Walking
+pub mod SyntaxExamples

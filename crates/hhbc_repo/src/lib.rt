@@ -18,7 +18,8 @@ pub use laws::{
 pub use link_fault::{LinkFault, LinkKind};
 pub use parts::{
     ArmParts, AssertParts, BaseParts, BodyParts, ClassParts, CodeParts, FinalParts, ImmParts,
-    InstrParts, ItemParts, MemberKeyParts, MemberSeqParts, PositionParts, PropertyParts, TypeParts,
+    InstrParts, ItemParts, MemberKeyParts, MemberSeqParts, Parts, PositionParts, PropertyParts,
+    TypeParts,
 };
 pub use repo::{Class, Const, Property, Repo};
 pub use soundness::{Analysed, facts_stay_true, rounds_stay_true, sample_is_true, tests_only_stop};

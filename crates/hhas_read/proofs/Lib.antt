@@ -1,0 +1,5 @@
+pub mod Resuming
+pub mod Joining
+pub mod Looking
+pub mod OneToken
+pub mod Said

@@ -1,0 +1,6 @@
+use Rattle.hhas_read.specs.Reading.{next}
+use Rattle.hhas_read.proofs.Said.{not_directive}
+use Rattle.hhas_read.proofs.reader.Reader.is_directive.Goals as goal
+
+pub returns-in_default : goal.returns-in_default
+returns-in_default c = not_directive c.peek.result (next c.args.self.now) c.peek.ensures c.in_default.not-Directive c.args.name.now

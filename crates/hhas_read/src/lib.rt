@@ -1,0 +1,8 @@
+//! Reads texts.
+#![tactic(auto)]
+
+mod fixed;
+mod reader;
+mod singles;
+
+pub use reader::{Piece, Reader, Stop};
