@@ -3,9 +3,6 @@ use Rattle.std.proofs.Common.{◌≡◌, ◌≢◌, ◌↔◌, ℕ, zero, suc, �
 use Rattle.std.proofs.lemmas.Bool.Decides.{Decides-eqb}
 use Rattle.hhbc_ops.specs.declared.op.Op.{Op}
 use Rattle.hhbc_ops.specs.declared.op.Op.TheVariants as ops
-use Rattle.hhbc_ops.specs.declared.words.Flavour.{Flavour}
-use Rattle.hhbc_ops.specs.declared.words.Flavour.TheVariants.{C, U}
-use Rattle.hhbc_ops.specs.Ops.{op_goes_on}
 use Rattle.hhbc_repo.specs.declared.code.Code.{Code}
 use Rattle.hhbc_repo.specs.declared.code.Code.TheVariants as kinds
 use Rattle.hhbc_repo.specs.declared.code.Imm.{Imm}
@@ -16,7 +13,7 @@ use Rattle.hhbc_repo.specs.declared.body.Body.{Body}
 use Rattle.hhbc_repo.specs.declared.body.Position.{Position}
 use Rattle.hhbc_repo.specs.Linked.{Linked}
 use Rattle.hhbc_repo.specs.Bodies.{code_at, asserts_at}
-use Rattle.hhbc_repo.specs.Codes.{labels_in, labels, op_pops, op_pushes, pops, pushes, throws, goes_on}
+use Rattle.hhbc_repo.specs.Codes.{Flavour, C, U, labels_in, labels, op_pops, op_pushes, pops, pushes, throws, goes_on, op_goes_on}
 use Rattle.hhbc_repo.specs.Edges.{Edge, Next, handler_of, handler_edges, next_edges, edges_of, edges}
 use Rattle.hhbc_repo.specs.Form.{FitsOperands, FitsCode, FitsPosition, FitPositions, IsReturn, IsFirstBody, IsFirstForm, FitAsserts, FitsStated, FitsClaimed, FitClaimed, IsSecondBody, IsSecondForm}
 use Rattle.hhbc_repo.specs.Shapes.{Shape, Check, ShapeKind, Underflow, WrongFlavour, TooManyCells, given, given_after, given_by, shapes, edge_to, after, behind, agree, same_live, edge_checks, all_edge_checks, last_checks, first_fault, fault_at, deepest, cells, reaches, pops_of, Types}

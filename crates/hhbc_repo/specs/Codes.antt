@@ -2,9 +2,9 @@
 use Rattle.std.specs.Prelude.{ℕ, ℤ, pos, Bool, true, List, [], ◌∷◌, ◌++◌, map, flat_map, replicate}
 use Rattle.hhbc_ops.specs.declared.op.Op.{Op}
 use Rattle.hhbc_ops.specs.declared.op.Op.TheVariants as ops
-use Rattle.hhbc_ops.specs.declared.words.Flavour.{Flavour}
-use Rattle.hhbc_ops.specs.declared.words.Flavour.TheVariants.{C, U}
-use Rattle.hhbc_ops.specs.Ops.{op_throws, op_goes_on}
+pub use Rattle.hhbc_ops.specs.declared.words.Flavour.{Flavour}
+pub use Rattle.hhbc_ops.specs.declared.words.Flavour.TheVariants.{C, U}
+pub use Rattle.hhbc_ops.specs.Ops.{op_throws, op_goes_on}
 use Rattle.hhbc_repo.specs.declared.code.Code.{Code}
 use Rattle.hhbc_repo.specs.declared.code.Code.TheVariants as kinds
 use Rattle.hhbc_repo.specs.declared.code.Arm.{Arm}

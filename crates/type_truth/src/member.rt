@@ -8,7 +8,9 @@ use hack_values::{Cell, DictVal, Heap, Key, KeysetVal, Slot, VecVal};
 use type_lattice::{ClassTree, HType, IntPart, Leaf, ObjPart, StrPart};
 
 /// Whether the slot is of the type. Looks at each element and key of a container once, and not
-/// into the containers among them, of which a type says nothing.
+/// into the containers among them, of which a type says nothing; so its time is that of the
+/// elements, and of the way up from the class of each object. An object that isn't in the heap is
+/// of no class.
 pub fn is_member(slot: &Slot, t: &HType, heap: &Heap, tree: &ClassTree) -> bool
     ensures { result ≡ member.is_member tree.now heap.now slot.now t.now }
 {
