@@ -1,8 +1,9 @@
 #!/usr/bin/env python3
 """Times the built program on a long text: the first example, filled with white space to the longest text that is read.
 
-Prints seconds and peak memory of three runs, beside those of `wc -c` on the same file: the program annotating the
-text, refusing a text of another form as long, and refusing one that is a byte too long.
+Prints seconds and peak memory of each run, beside those of `wc -c` on the same file: the program annotating the
+text, refusing a text of another form as long, and refusing one that is a byte too long; and running the text, and
+refusing to run longer ones.
 """
 
 import os
@@ -12,6 +13,7 @@ import tempfile
 import time
 
 LIMIT = 16_777_216
+RUN_LIMIT = 134_217_728
 TOP = os.path.dirname(os.path.dirname(os.path.abspath(__file__)))
 PROGRAM = os.path.join(TOP, "hhbbc")
 
@@ -39,19 +41,23 @@ def main():
     with open(os.path.join(TOP, "examples", "first.hhas"), "rb") as example:
         text = example.read()
     subprocess.run([PROGRAM], stdin=subprocess.DEVNULL, stderr=subprocess.DEVNULL, check=False)
-    print(f"{'case':<12}{'bytes':>10}  {'run':<8}{'seconds':>9}{'MiB':>8}")
-    for name, begin, size, end, wanted in [
-        ("annotated", text, LIMIT // 4, b"", 0),
-        ("annotated", text, LIMIT, b"", 0),
-        ("refused", b".profile 1;", LIMIT // 4, b"x", 72),
-        ("refused", b".profile 1;", LIMIT, b"x", 72),
-        ("too long", text, LIMIT + 1, b"", 69),
+    print(f"{'case':<12}{'bytes':>11}  {'run':<8}{'seconds':>9}{'MiB':>8}")
+    for name, command, begin, size, end, wanted in [
+        ("annotated", "analyze", text, LIMIT // 4, b"", 0),
+        ("annotated", "analyze", text, LIMIT, b"", 0),
+        ("refused", "analyze", b".profile 1;", LIMIT // 4, b"x", 72),
+        ("refused", "analyze", b".profile 1;", LIMIT, b"x", 72),
+        ("too long", "analyze", text, LIMIT + 1, b"", 69),
+        ("ran", "run", text, LIMIT // 4, b"", 0),
+        ("ran", "run", text, LIMIT, b"", 0),
+        ("not yet", "run", text, RUN_LIMIT, b"", 72),
+        ("too long", "run", text, RUN_LIMIT + 1, b"", 69),
     ]:
         with tempfile.NamedTemporaryFile() as file:
             filled(file, begin, size, end)
-            for run, words in (("hhbbc", [PROGRAM, "analyze"]), ("wc -c", ["wc", "-c"])):
+            for run, words in (("hhbbc", [PROGRAM, command]), ("wc -c", ["wc", "-c"])):
                 seconds, peak, status = measured(words, file.name)
-                print(f"{name:<12}{size:>10}  {run:<8}{seconds:>9.3f}{peak:>8.1f}")
+                print(f"{name:<12}{size:>11}  {run:<8}{seconds:>9.3f}{peak:>8.1f}")
                 if run == "hhbbc" and status != wanted:
                     sys.exit(f"status {status}, wanted {wanted}")
 

@@ -22,7 +22,7 @@ use Rattle.hhbc_repo.specs.Codes.{local_of, int_of}
 use Rattle.hhbc_repo.specs.Truth.{Facts}
 use Rattle.hhbc_repo.specs.Machine.{World, Frame, Turn, with_cell, read_slot, perform, perform_code}
 use Rattle.abstract_step.specs.State.{State, AllLe, StateLe}
-use Rattle.abstract_step.specs.Flow.{Row, nothing, with_type, with_local_type, op_row, row}
+use Rattle.abstract_step.specs.Flow.{Row, nothing, undefined_row, with_type, with_local_type, op_row, row}
 pub use Rattle.abstract_step.specs.Laws.{Lies, LiesBehind, Fits}
 use Rattle.abstract_step.proofs.StateOrder.{BothAt, AllLe-get, AllLe-set, never-le, initialised-le, AreMembers-get, AreMembers-set}
 
@@ -32,13 +32,7 @@ same_row r q F G n m (kinds.Plain i) s = same i.op
   where
     same : (op : Op) → op_row r F n op i.imms s ≡ op_row q G m op i.imms s
     same ops.Null = refl
-    same ops.True = refl
-    same ops.False = refl
-    same ops.Int = refl
-    same ops.PopC = refl
-    same ops.SetL = refl
-    same ops.CGetL = refl
-    same ops.RetC = refl
+    same _ = refl
 same_row r q F G n m (kinds.Member x) s = refl
 
 -- no label is gone to, and no property is written
@@ -63,6 +57,7 @@ op_row-straight r F n ops.PopC imms s = with_type-straight s.stack _ (λ t ts. r
 op_row-straight r F n ops.SetL imms s = with_type-straight s.stack _ (λ t ts. record { labels = refl; effects = refl })
 op_row-straight r F n ops.CGetL imms s = with_local_type-straight (slice_get s.locals (local_of imms)) _ (λ t. record { labels = refl; effects = refl })
 op_row-straight r F n ops.RetC imms s = with_type-straight s.stack _ (λ t ts. record { labels = refl; effects = refl })
+op_row-straight r F n _ imms s = record { labels = refl; effects = refl }
 
 pub row-straight : (r : Linked) (F : Facts) (n : ℕ) (c : Code) (s : State) → IsStraight (row r F n c s)
 row-straight r F n (kinds.Plain i) s = op_row-straight r F n i.op i.imms s
@@ -110,10 +105,11 @@ module _ (tree : Tree) where
       (λ a b e. on_both _ _ (record { locals = h.locals; stack = (e, h.stack); iters = h.iters }))
   op_row-le r F n ops.RetC imms s t h =
       with_type-le s.stack t.stack _ _ h.stack (λ a tail b more e k. record { behind = tt; returned = e })
+  op_row-le r F n _ imms s t h = nothing-le undefined_row
 
   pub row-le : (r : Linked) (F : Facts) (n : ℕ) (c : Code) (s t : State) → StateLe tree s t → RowLe tree (row r F n c s) (row r F n c t)
   row-le r F n (kinds.Plain i) s t h = op_row-le r F n i.op i.imms s t h
-  row-le r F n (kinds.Member m) s t h = nothing-le nothing
+  row-le r F n (kinds.Member m) s t h = nothing-le undefined_row
 
 module _ (tree : Tree) (f : Frame) (w : World) where
   fits_cell : (ss : List Slot) (ts : List HType) (go : Cell → List Slot → Turn) (to : HType → List HType → Row)
@@ -153,6 +149,7 @@ module _ (tree : Tree) (f : Frame) (w : World) where
       (λ c t m. (record { locals = h.locals; stack = (m, h.stack) }, refl, refl, refl))
   fits_op r F n ops.RetC imms b s h =
       fits_cell f.stack s.stack _ _ h.stack (λ c rest t more m k. (m, refl))
+  fits_op r F n _ imms b s h = tt
 
   pub fits_code : (r : Linked) (F : Facts) (n : ℕ) (c : Code) (b : Body) (s : State) → Lies tree f w.heap s
       → Fits tree f w (row r F n c s) (perform_code (Some c) b f w)

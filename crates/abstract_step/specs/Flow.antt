@@ -53,7 +53,11 @@ abbrev pub with_local_type : Option HType → (HType → Row) → Row
 with_local_type None go = nothing
 with_local_type (Some t) go = go (initialised t)
 
--- an instruction of a body, by its number, under facts
+-- what is not defined here goes nowhere
+abbrev pub undefined_row : Row
+undefined_row = nothing
+
+-- an instruction of a body, by its number, under facts; the further ones come with the forms that have them
 abbrev pub op_row : Linked → Facts → ℕ → Op → List Imm → State → Row
 op_row r F n ops.Null imms s = goes (push s (literal cells.Null))
 op_row r F n ops.True imms s = goes (push s (literal (cells.Bool true)))
@@ -63,11 +67,12 @@ op_row r F n ops.PopC imms s = with_type s.stack (λ t ts. goes (record s { stac
 op_row r F n ops.SetL imms s = with_type s.stack (λ t ts. goes (record s { locals = slice_set s.locals (local_of imms) t }))
 op_row r F n ops.CGetL imms s = with_local_type (slice_get s.locals (local_of imms)) (λ t. goes (push s t))
 op_row r F n ops.RetC imms s = with_type s.stack (λ t ts. returns t)
+op_row r F n _ imms s = undefined_row
 
 -- member sequences come with their first instruction
 abbrev pub row : Linked → Facts → ℕ → Code → State → Row
 row r F n (kinds.Plain i) s = op_row r F n i.op i.imms s
-row r F n (kinds.Member m) s = nothing
+row r F n (kinds.Member m) s = undefined_row
 
 -- the flows of a position, in the order of its edges, with what it returns and writes
 pub record Flows : Type 0 where

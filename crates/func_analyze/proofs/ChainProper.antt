@@ -102,6 +102,7 @@ op_proper ops.CGetL is s h k =
     with_local_proper (slice_get s.locals (local_of is)) _ (got s.locals (local_of is) k.locals)
     (λ t x. record { behind = record { locals = k.locals; stack = (x, k.stack) }; returned = never_proper })
 op_proper ops.RetC is s h k = with_type_proper s.stack _ k.stack (λ t more x y. record { behind = tt; returned = x })
+op_proper _ is s h k = record { behind = tt; returned = never_proper }
 
 row_proper : (c : Code) (s : State) → IsWord c → ProperState s → ProperRow (row_of c s)
 row_proper (kinds.Plain i) s h k = op_proper i.op i.imms s h k

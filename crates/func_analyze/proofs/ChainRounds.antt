@@ -65,6 +65,7 @@ op_returns_not ops.PopC imms s h = with_type-never s.stack _
 op_returns_not ops.SetL imms s h = with_type-never s.stack _
 op_returns_not ops.CGetL imms s h = with_local_type-never _ _
 op_returns_not ops.RetC imms s h = absurd (h refl)
+op_returns_not _ imms s h = refl
 
 returns_not : (c : Code) (s : State) → (IsReturn c → ⊥) → (row_of c s).returned ≡ never
 returns_not (kinds.Plain i) s h = op_returns_not i.op i.imms s h

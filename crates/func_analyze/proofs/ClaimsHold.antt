@@ -1,6 +1,7 @@
 -- The assertions that a state gives hold of a frame that lies in it, and change no code.
 use Rattle.std.proofs.Common.{◌≡◌, ℕ, zero, suc, refl, sym, ◌∙◌, ap, subst, Bool, true, false, Option, Some, None, List, [], ◌∷◌, ◌++◌, slice_get, cond}
 use Rattle.hack_values.specs.declared.cell.Slot.{Slot}
+use Rattle.hhbc_ops.specs.declared.words.Flavour.{Flavour}
 use Rattle.type_lattice.specs.declared.types.HType.{HType}
 use Rattle.type_lattice.specs.Classes.{Tree}
 use Rattle.type_lattice.specs.Member.{Heap, is_member, AreMembers}
@@ -10,7 +11,7 @@ use Rattle.hhbc_repo.specs.declared.body.Assert.{Assert}
 use Rattle.hhbc_repo.specs.declared.body.Assert.TheVariants as asserts
 use Rattle.hhbc_repo.specs.declared.body.Position.{Position}
 use Rattle.hhbc_repo.specs.Bodies.{asserts_of}
-use Rattle.hhbc_repo.specs.Codes.{Flavour, reads_locals, pops}
+use Rattle.hhbc_repo.specs.Codes.{reads_locals, pops}
 use Rattle.hhbc_repo.specs.Machine.{Frame}
 use Rattle.hhbc_repo.specs.Run.{slot_in, holds, and_then, test}
 use Rattle.abstract_step.specs.State.{State}

@@ -10,7 +10,8 @@ use Rattle.hhbc_repo.specs.declared.code.Code.{Code}
 use Rattle.hhbc_repo.specs.declared.code.Code.TheVariants as kinds
 use Rattle.hhbc_repo.specs.declared.code.Imm.{Imm}
 use Rattle.hhbc_repo.specs.declared.body.Body.{Body}
-use Rattle.hhbc_repo.specs.Codes.{local_of, op_throws, throws}
+use Rattle.hhbc_ops.specs.Ops.{op_throws}
+use Rattle.hhbc_repo.specs.Codes.{local_of, throws}
 use Rattle.hhbc_repo.specs.Machine.{World, Frame, Turn, Goes, Calls, Returns, Raises, Ends, exception, undefined_variable, with_cell, read_slot, name_or_none, perform, perform_code}
 
 -- a turn changes nothing that all frames share, but to raise the exception of an undefined variable, where it may throw
@@ -42,6 +43,7 @@ does_op ops.PopC is b f w = does_cell _ w f.stack _ (λ c rest. refl)
 does_op ops.SetL is b f w = does_cell _ w f.stack _ (λ c rest. refl)
 does_op ops.CGetL is b f w = does_local w (slice_get f.locals (local_of is)) (name_or_none (slice_get b.locals (local_of is))) _ (λ c. refl)
 does_op ops.RetC is b f w = does_cell _ w f.stack _ (λ c rest. refl)
+does_op _ is b f w = refl
 
 pub does_code : (c : Code) (b : Body) (f : Frame) (w : World) → Does (throws c) w (perform_code (Some c) b f w)
 does_code (kinds.Plain i) b f w = does_op i.op i.imms b f w

@@ -1,5 +1,6 @@
 -- The annotated repository: what it states and asserts.
 use Rattle.std.specs.Prelude.{◌≡◌, ℕ, suc, ◌+◌, List, [], ◌∷◌, ◌++◌, length, Option, Some, None, slice_get, if◌then◌else◌}
+use Rattle.hhbc_ops.specs.declared.words.Flavour.{Flavour}
 use Rattle.type_lattice.specs.declared.types.HType.{HType}
 use Rattle.type_lattice.specs.Whole.{is_whole}
 use Rattle.hhbc_repo.specs.declared.body.Body.{Body}
@@ -9,7 +10,7 @@ use Rattle.hhbc_repo.specs.declared.body.Assert.TheVariants as asserts
 use Rattle.hhbc_repo.specs.declared.code.Code.{Code}
 use Rattle.hhbc_repo.specs.declared.repo.Class.{Class}
 use Rattle.hhbc_repo.specs.declared.repo.Property.{Property}
-use Rattle.hhbc_repo.specs.Codes.{Flavour, pops, reads_locals}
+use Rattle.hhbc_repo.specs.Codes.{pops, reads_locals}
 use Rattle.hhbc_repo.specs.Linked.{Linked}
 use Rattle.hhbc_repo.specs.Bare.{bare}
 use Rattle.hhbc_repo.specs.Truth.{Facts}

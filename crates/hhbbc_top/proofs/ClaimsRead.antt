@@ -11,10 +11,6 @@ prepended-one : (out : List Assert) (a : Assert) (o : Claims) → claims_prepend
 prepended-one out a None = refl
 prepended-one out a (Some x) = ap (λ (l : List Assert). Some ((l, x.0.1), x.1)) (sym (append_assoc out (a ∷ []) x.0.0))
 
-pub claims-first : (o : Claims) → claims_prepended [] o ≡ o
-claims-first None = refl
-claims-first (Some x) = refl
-
 pub claims-zero : (locals : List (List ℕ)) (depth : ℕ) (name : List ℕ) (ts : List Token) → claims_from zero locals depth name ts ≡ None
 unfolding claims_from
 claims-zero locals depth name ts = refl

@@ -7,7 +7,7 @@ use Rattle.hhbc_repo.specs.declared.parts.ItemParts.TheVariants as items
 use Rattle.hhbc_repo.specs.declared.parts.PositionParts.{PositionParts}
 use Rattle.hhbc_repo.specs.declared.body.Position.{Position}
 use Rattle.hhbc_repo.specs.Codes.{pops, pushes}
-use Rattle.hhbc_repo.specs.Form.{FitsClaimed, FitClaimed, IsReturn}
+use Rattle.hhbc_repo.specs.Form.{FitsCode, FitsClaimed, FitClaimed, IsReturn}
 use Rattle.hhbc_repo.specs.Grammar.{APosition, Items}
 use Rattle.hhbc_repo.specs.Linking.{LinksPosition, LinksItems}
 use Rattle.hhbc_repo.specs.Shapes.{reaches}
@@ -244,12 +244,12 @@ walks-code q qs s depth e w =
     (walks-depth s.step depth (both-right (reaches s.asserts depth) (finds s.step depth) here), both-right (reaches s.asserts depth && finds s.step depth) more v)
 
 last-given : (n : ℕ) (locals : List (List ℕ)) (depth : ℕ) (a b ts rest : List Token) (p : PositionParts) (is : List ItemParts) (q : Position) → APosition a p → Items b is
-    → ts ≡ a ++ b → LinksPosition locals p q → LinksItems locals is [] → IsReturn q.code → walks_asserted depth (q ∷ []) ≡ true → length ts < max_claims
+    → ts ≡ a ++ b → LinksPosition locals p q → FitsCode (length locals) q.code → LinksItems locals is [] → IsReturn q.code → walks_asserted depth (q ∷ []) ≡ true → length ts < max_claims
     → CodesGiven (suc n) locals depth ts rest (q ∷ [])
-last-given n locals depth a b ts rest p is q spells others split links more back walked short =
+last-given n locals depth a b ts rest p is q spells others split links fits more back walked short =
     let nothing : b ≡ [] = subst (λ (l : List ItemParts). Items b l) (no_items locals is more) others in
     let alone : ts ≡ a = split ∙ ap (λ (l : List Token). a ++ l) nothing ∙ append-nil a in
-    let g : LineGiven locals depth a rest q = line-given locals depth a rest p q spells links (walks-here q [] depth walked) (subst (λ (l : List Token). length l < max_claims) alone short) in
+    let g : LineGiven locals depth a rest q = line-given locals depth a rest p q spells links fits (walks-here q [] depth walked) (subst (λ (l : List Token). length l < max_claims) alone short) in
     let w : (depth_behind g.line.step depth ≡ Some (deep g.line.step depth)) × (walks_asserted (deep g.line.step depth) [] ≡ true) = walks-code q [] g.line depth g.is walked in
     let return : is_return g.line.step ≡ true = returns-from g.line.step (subst (λ (x : Position). IsReturn x.code) g.is back) in
     record {
@@ -267,10 +267,10 @@ front-short a b ts e short =
     (omega (arith, c, short), omega (arith, c, short))
 
 next-given : (n : ℕ) (locals : List (List ℕ)) (depth : ℕ) (a b ts rest : List Token) (p : PositionParts) (q : Position) (qs : List Position) → APosition a p → ts ≡ a ++ b
-    → LinksPosition locals p q → (IsReturn q.code → ⊥) → walks_asserted depth (q ∷ qs) ≡ true → length a < max_claims
+    → LinksPosition locals p q → FitsCode (length locals) q.code → (IsReturn q.code → ⊥) → walks_asserted depth (q ∷ qs) ≡ true → length a < max_claims
     → ((d : ℕ) → walks_asserted d qs ≡ true → CodesGiven n locals d b rest qs) → CodesGiven (suc n) locals depth ts rest (q ∷ qs)
-next-given n locals depth a b ts rest p q qs spells split links on walked short given =
-    let g : LineGiven locals depth a (b ++ rest) q = line-given locals depth a (b ++ rest) p q spells links (walks-here q qs depth walked) short in
+next-given n locals depth a b ts rest p q qs spells split links fits on walked short given =
+    let g : LineGiven locals depth a (b ++ rest) q = line-given locals depth a (b ++ rest) p q spells links fits (walks-here q qs depth walked) short in
     let w : (depth_behind g.line.step depth ≡ Some (deep g.line.step depth)) × (walks_asserted (deep g.line.step depth) qs ≡ true) = walks-code q qs g.line depth g.is walked in
     let m : CodesGiven n locals (deep g.line.step depth) b rest qs = given (deep g.line.step depth) w.1 in
     let stay : is_return g.line.step ≡ false = stays-from g.line.step (λ h. on (subst (λ (x : Position). IsReturn x.code) (sym g.is) h)) in
@@ -296,8 +296,8 @@ codes-given n locals depth ts rest is [] spells links fits walked few short = ab
 codes-given zero locals depth ts rest is (q ∷ qs) spells links fits walked few short = absurd (too_few q qs few)
 codes-given (suc n) locals depth ts rest [] (q ∷ qs) spells links fits walked few short = absurd links
 codes-given (suc n) locals depth ts rest (items.Position p ∷ is) (q ∷ []) spells links fits walked few short =
-    last-given n locals depth spells.0 spells.1 ts rest p is q spells.2 spells.3 spells.4 links.0 links.1 fits.1 walked short
+    last-given n locals depth spells.0 spells.1 ts rest p is q spells.2 spells.3 spells.4 links.0 fits.0.fits links.1 fits.1 walked short
 codes-given (suc n) locals depth ts rest (items.Position p ∷ is) (q ∷ r ∷ rs) spells links fits walked few short =
-    next-given n locals depth spells.0 spells.1 ts rest p q (r ∷ rs) spells.2 spells.4 links.0 fits.1 walked (front-short spells.0 spells.1 ts spells.4 short).0
+    next-given n locals depth spells.0 spells.1 ts rest p q (r ∷ rs) spells.2 spells.4 links.0 fits.0.fits fits.1 walked (front-short spells.0 spells.1 ts spells.4 short).0
     (λ d w. codes-given n locals d spells.1 rest is (r ∷ rs) spells.3 links.1 fits.2 w (fewer n q (r ∷ rs) few) (front-short spells.0 spells.1 ts spells.4 short).1)
 codes-given (suc n) locals depth ts rest (_ ∷ is) (q ∷ qs) spells links fits walked few short = absurd spells.2

@@ -12,10 +12,6 @@ use Rattle.hhbbc_top.specs.Reading.{line_in, depth_behind, is_return, behind_one
 abbrev Coded : Type 0
 Coded = Option (List Line × List Token)
 
-pub prepended-nil : (o : Coded) → prepended [] o ≡ o
-prepended-nil None = refl
-prepended-nil (Some x) = refl
-
 prepended-one : (out : List Line) (s : Line) (o : Coded) → prepended out (behind_one s o) ≡ prepended (out ++ s ∷ []) o
 prepended-one out s None = refl
 prepended-one out s (Some x) = ap (λ l. Some (l, x.1)) (sym (append_assoc out (s ∷ []) x.0))

@@ -16,3 +16,5 @@ pub mod Coding
 pub mod Naming
 pub mod Along
 pub mod Stacks
+pub mod Machines
+pub mod CommandWords

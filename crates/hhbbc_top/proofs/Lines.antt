@@ -9,7 +9,7 @@ use Rattle.hhbc_repo.specs.declared.parts.TypeParts.{TypeParts}
 use Rattle.hhbc_repo.specs.declared.body.Assert.{Assert}
 use Rattle.hhbc_repo.specs.declared.body.Assert.TheVariants as asserts
 use Rattle.hhbc_repo.specs.declared.body.Position.{Position}
-use Rattle.hhbc_repo.specs.Form.{FitAsserts, FitsClaimed}
+use Rattle.hhbc_repo.specs.Form.{FitsCode, FitAsserts, FitsClaimed}
 use Rattle.hhbc_repo.specs.Grammar.{AType, AnAssert, Asserts, APosition}
 use Rattle.hhbc_repo.specs.Linking.{LinksType, LinksAssert, LinksAsserts, LinksPosition}
 use Rattle.hhbc_repo.specs.Shapes.{assert_reach, reaches}
@@ -224,10 +224,10 @@ pub record LineGiven (locals : List (List ℕ)) (depth : ℕ) (ts us : List Toke
   pub is : q ≡ position_of line
 
 pub line-given : (locals : List (List ℕ)) (depth : ℕ) (ts us : List Token) (p : PositionParts) (q : Position) → APosition ts p → LinksPosition locals p q
-    → reaches q.asserts depth ≡ true → length ts < max_claims → LineGiven locals depth ts us q
+    → FitsCode (length locals) q.code → reaches q.asserts depth ≡ true → length ts < max_claims → LineGiven locals depth ts us q
 unfolding line_in
-line-given locals depth ts us p q spells links reach few =
-    let c : CodeGiven locals spells.behind us q.code = code-given locals spells.behind us p.code q.code spells.code links.code in
+line-given locals depth ts us p q spells links fits reach few =
+    let c : CodeGiven locals spells.behind us q.code = code-given locals spells.behind us p.code q.code spells.code links.code fits in
     let long = as-long spells.before p.asserts spells.asserts in
     let whole : length ts ≡ length spells.before + length spells.behind = ap (λ (l : List Token). length l) spells.tokens ∙ length-append spells.before spells.behind in
     let less : length p.asserts < max_claims = omega (arith, long, whole, few) in

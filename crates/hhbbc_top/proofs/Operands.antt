@@ -1,5 +1,5 @@
 -- One code as tokens: what is read of it, and what the grammar and linking say of it.
-use Rattle.std.proofs.Common.{◌≡◌, ◌<◌, inl, inr, ℕ, ℤ, nat_eq, nat_lt, refl, sym, ◌∙◌, ap, subst, true, false, List, [], ◌∷◌, ◌++◌, append-nil, length, Option, Some}
+use Rattle.std.proofs.Common.{◌≡◌, ◌<◌, ℕ, ℤ, nat_eq, nat_lt, refl, sym, ◌∙◌, ap, subst, true, false, List, [], ◌∷◌, ◌++◌, append-nil, length, Option, Some}
 use Rattle.std.specs.Cmp.Lexicographic.{pointwise}
 use Rattle.std.specs.List.{position_or_len}
 use Rattle.std.proofs.lemmas.Option.{cond_some}
@@ -24,10 +24,10 @@ use Rattle.hhbc_repo.specs.Linking.{place_of, LinksOperand, LinksOperands, Links
 use Rattle.hhbbc_top.specs.declared.form.Step.{Step}
 use Rattle.hhbbc_top.specs.declared.form.Step.TheVariants as steps
 use Rattle.hhbbc_top.specs.Pieces.{local_in, integer_in}
-use Rattle.hhbbc_top.specs.Reading.{chain, named_among, all_ops, op_of, is_claim, number_in, with_int, with_number, step_of, step_in}
+use Rattle.hhbbc_top.specs.Reading.{chain, op_of, is_claim, number_in, with_int, with_number, step_of, step_in}
 use Rattle.hhbbc_top.specs.Forms.{plain, code_of}
-use Rattle.hhbbc_top.proofs.Fronts.{chain-some, cond-either, some-is, same-word, integer_in-some}
-use Rattle.hhbbc_top.proofs.Names.{op_of-name}
+use Rattle.hhbbc_top.proofs.Fronts.{chain-some, some-is, integer_in-some}
+use Rattle.hhbbc_top.proofs.Names.{op_of-name, op_of-is}
 use Rattle.hhbbc_top.proofs.Naming.{local_in-some}
 
 -- the operands of an instruction, as they were read
@@ -127,18 +127,7 @@ operands-read locals ops.PopC ts us s e = bare-read locals ops.PopC steps.PopC s
 operands-read locals ops.SetL ts us s e = local-read locals ops.SetL (λ l. steps.SetL l) ts us s refl (λ l h. h) (λ l. refl) e
 operands-read locals ops.CGetL ts us s e = local-read locals ops.CGetL (λ l. steps.CGetL l) ts us s refl (λ l h. h) (λ l. refl) e
 operands-read locals ops.RetC ts us s e = bare-read locals ops.RetC steps.RetC s ts us refl tt refl e
-
-named-is : (all : List Op) (name : List ℕ) (op : Op) → named_among all name ≡ Some op → op_name op ≡ name
-named-is [] name op e = absurd (cc)
-named-is (o ∷ more) name op e =
-    elim (cond-either (pointwise nat_eq (op_name o) name) (Some o) (named_among more name) op e) [
-      | inl h ↦ ap op_name (sym (some-is o op h.1)) ∙ same-word (op_name o) name h.0
-      | inr h ↦ named-is more name op h.1
-    ]
-
-op-is : (name : List ℕ) (op : Op) → op_of name ≡ Some op → op_name op ≡ name
-unfolding op_of
-op-is name op e = named-is all_ops name op e
+operands-read locals _ ts us s e = absurd (cc)
 
 -- a code as it was read
 pub record StepRead (locals : List (List ℕ)) (name : List ℕ) (ts us : List Token) (s : Step) : Type 0 where
@@ -153,7 +142,7 @@ pub step-read : (locals : List (List ℕ)) (name : List ℕ) (ts us : List Token
 step-read locals name ts us s e =
     let h : (op : Op) × (op_of name ≡ Some op) × (step_of locals op ts ≡ Some (s, us)) = chain-some (op_of name) (λ op. step_of locals op ts) (s, us) e in
     let o : OperandsRead locals h.0 ts us s = operands-read locals h.0 ts us s h.2 in
-    let named : op_name h.0 ≡ name = op-is name h.0 h.1 in
+    let named : op_name h.0 ≡ name = op_of-is name h.0 h.1 in
     record {
       spelled = Word (op_name h.0) ∷ o.operands;
       part = forms.Plain (record { op = h.0; imms = o.parts });
@@ -245,27 +234,22 @@ local-given locals op make ts us ms js reads is spells links =
       is = ap (λ (l : List Imm). plain op l) e ∙ is k.0;
     }
 
-operands-given : (locals : List (List ℕ)) (op : Op) (ts us : List Token) (ms : List ImmParts) (js : List Imm) → Operands (kinds_of op) ts ms → LinksOperands locals ms js
-    → OperandsGiven locals op ts us js
-operands-given locals ops.Null ts us ms js spells links = bare-given locals ops.Null steps.Null ts us ms js refl (λ vs. refl) refl spells links
-operands-given locals ops.True ts us ms js spells links = bare-given locals ops.True steps.True ts us ms js refl (λ vs. refl) refl spells links
-operands-given locals ops.False ts us ms js spells links = bare-given locals ops.False steps.False ts us ms js refl (λ vs. refl) refl spells links
-operands-given locals ops.Int ts us ms js spells links = int-given locals ts us ms js spells links
-operands-given locals ops.PopC ts us ms js spells links = bare-given locals ops.PopC steps.PopC ts us ms js refl (λ vs. refl) refl spells links
-operands-given locals ops.SetL ts us ms js spells links = local-given locals ops.SetL (λ l. steps.SetL l) ts us ms js (λ vs. refl) (λ l. refl) spells links
-operands-given locals ops.CGetL ts us ms js spells links = local-given locals ops.CGetL (λ l. steps.CGetL l) ts us ms js (λ vs. refl) (λ l. refl) spells links
-operands-given locals ops.RetC ts us ms js spells links = bare-given locals ops.RetC steps.RetC ts us ms js refl (λ vs. refl) refl spells links
+operands-given : (locals : List (List ℕ)) (op : Op) (ts us : List Token) (ms : List ImmParts) (js : List Imm) → FitsOperands (length locals) op js → Operands (kinds_of op) ts ms
+    → LinksOperands locals ms js → OperandsGiven locals op ts us js
+operands-given locals ops.Null ts us ms js fits spells links = bare-given locals ops.Null steps.Null ts us ms js refl (λ vs. refl) refl spells links
+operands-given locals ops.True ts us ms js fits spells links = bare-given locals ops.True steps.True ts us ms js refl (λ vs. refl) refl spells links
+operands-given locals ops.False ts us ms js fits spells links = bare-given locals ops.False steps.False ts us ms js refl (λ vs. refl) refl spells links
+operands-given locals ops.Int ts us ms js fits spells links = int-given locals ts us ms js spells links
+operands-given locals ops.PopC ts us ms js fits spells links = bare-given locals ops.PopC steps.PopC ts us ms js refl (λ vs. refl) refl spells links
+operands-given locals ops.SetL ts us ms js fits spells links = local-given locals ops.SetL (λ l. steps.SetL l) ts us ms js (λ vs. refl) (λ l. refl) spells links
+operands-given locals ops.CGetL ts us ms js fits spells links = local-given locals ops.CGetL (λ l. steps.CGetL l) ts us ms js (λ vs. refl) (λ l. refl) spells links
+operands-given locals ops.RetC ts us ms js fits spells links = bare-given locals ops.RetC steps.RetC ts us ms js refl (λ vs. refl) refl spells links
+operands-given locals _ ts us ms js fits spells links = absurd fits
 
 -- no instruction is called as an assertion is
 unclaimed : (op : Op) → is_claim (op_name op) ≡ false
 unclaimed ops.Null = refl
-unclaimed ops.True = refl
-unclaimed ops.False = refl
-unclaimed ops.Int = refl
-unclaimed ops.PopC = refl
-unclaimed ops.SetL = refl
-unclaimed ops.CGetL = refl
-unclaimed ops.RetC = refl
+unclaimed _ = refl
 
 -- a code of the grammar is read, and linked so
 pub record CodeGiven (locals : List (List ℕ)) (ts us : List Token) (c : Code) : Type 0 where
@@ -277,11 +261,12 @@ pub record CodeGiven (locals : List (List ℕ)) (ts us : List Token) (c : Code) 
   pub reads : step_in locals name operands ≡ Some (step, us)
   pub is : c ≡ code_of step
 
-pub code-given : (locals : List (List ℕ)) (ts us : List Token) (p : CodeParts) (c : Code) → ACode ts p → LinksCode locals p c → CodeGiven locals ts us c
-code-given locals ts us (forms.Member m) c spells links = absurd spells
-code-given locals ts us (forms.Plain i) (codes.Member m) spells links = absurd links
-code-given locals ts us (forms.Plain i) (codes.Plain j) spells links =
-    let o : OperandsGiven locals i.op spells.0 us j.imms = operands-given locals i.op spells.0 us i.imms j.imms spells.1 links.1 in
+pub code-given : (locals : List (List ℕ)) (ts us : List Token) (p : CodeParts) (c : Code) → ACode ts p → LinksCode locals p c → FitsCode (length locals) c → CodeGiven locals ts us c
+code-given locals ts us (forms.Member m) c spells links fits = absurd spells
+code-given locals ts us (forms.Plain i) (codes.Member m) spells links fits = absurd links
+code-given locals ts us (forms.Plain i) (codes.Plain j) spells links fits =
+    let same : FitsOperands (length locals) i.op j.imms = subst (λ (op : Op). FitsOperands (length locals) op j.imms) (sym links.0) fits in
+    let o : OperandsGiven locals i.op spells.0 us j.imms = operands-given locals i.op spells.0 us i.imms j.imms same spells.1 links.1 in
     record {
       name = op_name i.op;
       unclaimed = unclaimed i.op;

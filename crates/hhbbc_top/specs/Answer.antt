@@ -1,20 +1,30 @@
 -- What each status says, and when it comes.
-use Rattle.std.specs.Prelude.{◌≡◌, ◌≢◌, ◌⊎◌, ℕ, List, [], ◌∷◌, Option, Some, Result, Ok, Err, IfSome, codes}
+use Rattle.std.specs.Prelude.{◌≡◌, ◌⊎◌, ℕ, Bool, List, [], Option, Some, None, Result, Ok, Err, IfSome, codes}
 use Rattle.std.specs.Io.KnownBytes.{IsAtEnd}
 use Rattle.hh_io.specs.Counts.{Rose}
 use Rattle.hh_io.specs.Sources.{IsLonger, IsWithin}
 use Rattle.hh_io.specs.Sinks.{Takes, TakesPart}
 use Rattle.hhbc_repo.specs.Linked.{Linked}
 use Rattle.hhbc_repo.specs.Text.{text}
+use Rattle.hhbc_repo.specs.Run.{Result as Ran, run}
 use Rattle.hhbc_repo.specs.Truth.{IsFaithful}
 use Rattle.func_analyze.specs.Annotated.{IsAnnotated}
 use Rattle.hhbbc_top.specs.declared.status.Status.{Status}
-use Rattle.hhbbc_top.specs.declared.status.Status.TheVariants.{Done, Usage, TooLong, NoMemory, NotYet, ReadFault, WriteFault}
-use Rattle.hhbbc_top.specs.ReadText.{limit, IsReadText}
+use Rattle.hhbbc_top.specs.declared.status.Status.TheVariants.{Done, Uncaught, StepsSpent, AssertFalse, Usage, TooLong, NoMemory, NotYet, ReadFault, WriteFault}
+use Rattle.hhbbc_top.specs.declared.words.Command.{Command}
+use Rattle.hhbbc_top.specs.declared.words.Command.TheVariants.{Analyze, Run}
+use Rattle.hhbbc_top.specs.declared.top.Answer.{Answer}
+use Rattle.hhbbc_top.specs.declared.top.Answer.TheVariants as answers
+use Rattle.hhbbc_top.specs.ReadText.{IsReadText}
+use Rattle.hhbbc_top.specs.Report.{run_line, HasStatus}
+use Rattle.hhbbc_top.specs.Words.{command_of}
 
 -- the number that the process ends with
 abbrev pub number_of : Status → ℕ
 number_of Done = 0
+number_of Uncaught = 1
+number_of StepsSpent = 3
+number_of AssertFalse = 4
 number_of Usage = 64
 number_of TooLong = 69
 number_of NoMemory = 70
@@ -22,9 +32,12 @@ number_of NotYet = 72
 number_of ReadFault = 74
 number_of WriteFault = 75
 
--- the line to standard error
+-- the line to standard error of a status that no run ends with
 abbrev pub line_of : Status → List ℕ
 line_of Done = []
+line_of Uncaught = []
+line_of StepsSpent = []
+line_of AssertFalse = []
 line_of Usage = codes "usage\n"
 line_of TooLong = codes "too long\n"
 line_of NoMemory = codes "no memory\n"
@@ -32,9 +45,15 @@ line_of NotYet = codes "not yet\n"
 line_of ReadFault = codes "read fault\n"
 line_of WriteFault = []
 
--- the words of the one command that there is
-abbrev pub analyze : List (List ℕ)
-analyze = codes "analyze" ∷ []
+-- the longest text that a command takes
+abbrev pub limit_of : Command → ℕ
+limit_of Analyze = 16777216
+limit_of (Run steps asserted) = 134217728
+
+-- the bytes that are read for these words at most
+abbrev pub read_limit : Option Command → ℕ
+read_limit None = 0
+read_limit (Some c) = limit_of c
 
 -- how often the facts are made anew
 abbrev pub rounds : ℕ
@@ -53,31 +72,85 @@ pub record IsAnnotatedText (bytes out : List ℕ) : Type 0 where
   pub faithful : IsFaithful repo annotated
   pub written : out ≡ text annotated
 
+-- how main runs with so many steps at most, without arguments
+abbrev pub ran : Linked → ℕ → Bool → Ran
+ran r steps asserted = run r (codes "main") [] steps asserted
+
+-- what is said of the run of main of a text of the form that is read
+pub record IsRunText (bytes : List ℕ) (steps : ℕ) (asserted : Bool) (s : Status) (out told : List ℕ) : Type 0 where
+  pub repo : Linked
+  pub read : IsReadText bytes repo
+  pub only : (other : Linked) → IsReadText bytes other → other ≡ repo
+  pub status : HasStatus (ran repo steps asserted).outcome s
+  pub output : out ≡ (ran repo steps asserted).output
+  pub line : told ≡ run_line repo (ran repo steps asserted).outcome
+
+-- what a command answers to a text
+abbrev pub Answers : Command → List ℕ → Status → List ℕ → List ℕ → Type 0
+Answers Analyze bytes s out line = (s ≡ Done) × IsAnnotatedText bytes out × (line ≡ [])
+Answers (Run steps asserted) bytes s out line = IsRunText bytes steps asserted s out line
+
 -- it isn't of that form
 abbrev pub IsOtherText : List ℕ → Type 0
 IsOtherText bytes = (r : Linked) → IsReadText bytes r → ⊥
 
--- when a status comes, and what is to be written to standard output: from the words, what the source had left and has left
--- now, and its count of faults before and now. Memory may be wanting wherever a text is read.
-abbrev pub IsAnswer : List (List ℕ) → Option (List ℕ) → Option (List ℕ) → ℕ → ℕ → Status → List ℕ → Type 0
-IsAnswer words left rest before now Done out =
-    (words ≡ analyze) × IsAtEnd rest × IsWithin left limit × IfSome left (λ bytes. IsAnnotatedText bytes out) × (now ≡ before)
-IsAnswer words left rest before now Usage out = (words ≢ analyze) × (rest ≡ left) × (now ≡ before) × (out ≡ [])
-IsAnswer words left rest before now TooLong out = (words ≡ analyze) × IsLonger left limit × (now ≡ before) × (out ≡ [])
-IsAnswer words left rest before now NoMemory out = (words ≡ analyze) × (now ≡ before) × (out ≡ [])
-IsAnswer words left rest before now NotYet out =
-    (words ≡ analyze) × IsAtEnd rest × IsWithin left limit × IfSome left IsOtherText × (now ≡ before) × (out ≡ [])
-IsAnswer words left rest before now ReadFault out = (words ≡ analyze) × Rose before now × (out ≡ [])
-IsAnswer words left rest before now WriteFault out = ⊥
+-- a command went through all that the source had left, and P says what it found there
+pub record Ends (c : Command) (left rest : Option (List ℕ)) (before now : ℕ) (P : List ℕ → Type 0) : Type 0 where
+  pub ended : IsAtEnd rest
+  pub within : IsWithin left (limit_of c)
+  pub found : IfSome left P
+  pub faults : now ≡ before
 
--- what an answer writes to standard output, and its status
-abbrev pub out_of : Result (List ℕ) Status → List ℕ
-out_of (Ok out) = out
+-- nothing goes to standard output, and the line is that of the status
+abbrev pub Says : Status → List ℕ → List ℕ → Type 0
+Says s out line = (out ≡ []) × (line ≡ line_of s)
+
+-- when a status comes of a command, and what is to be written to standard output and standard error: from what the source had
+-- left and has left now, and its count of faults before and now. Memory may be wanting wherever a text is read.
+abbrev pub Obeys : Command → Option (List ℕ) → Option (List ℕ) → ℕ → ℕ → Status → List ℕ → List ℕ → Type 0
+Obeys c left rest before now Done out line = Ends c left rest before now (λ bytes. Answers c bytes Done out line)
+Obeys c left rest before now Uncaught out line = Ends c left rest before now (λ bytes. Answers c bytes Uncaught out line)
+Obeys c left rest before now StepsSpent out line = Ends c left rest before now (λ bytes. Answers c bytes StepsSpent out line)
+Obeys c left rest before now AssertFalse out line = Ends c left rest before now (λ bytes. Answers c bytes AssertFalse out line)
+Obeys c left rest before now Usage out line = ⊥
+Obeys c left rest before now TooLong out line = IsLonger left (limit_of c) × (now ≡ before) × Says TooLong out line
+Obeys c left rest before now NoMemory out line = (now ≡ before) × Says NoMemory out line
+Obeys c left rest before now NotYet out line = Ends c left rest before now IsOtherText × Says NotYet out line
+Obeys c left rest before now ReadFault out line = Rose before now × Says ReadFault out line
+Obeys c left rest before now WriteFault out line = ⊥
+
+-- the same of words: those of no command are Usage, and nothing is read
+abbrev pub OfCommand : Option Command → Option (List ℕ) → Option (List ℕ) → ℕ → ℕ → Status → List ℕ → List ℕ → Type 0
+OfCommand None left rest before now s out line = (s ≡ Usage) × (rest ≡ left) × (now ≡ before) × Says Usage out line
+OfCommand (Some c) left rest before now s out line = Obeys c left rest before now s out line
+
+abbrev pub IsAnswer : List (List ℕ) → Option (List ℕ) → Option (List ℕ) → ℕ → ℕ → Status → List ℕ → List ℕ → Type 0
+IsAnswer words left rest before now s out line = OfCommand (command_of words) left rest before now s out line
+
+-- the status of an answer, and what it writes
+abbrev pub status_of_answer : Answer → Status
+status_of_answer (answers.Text out) = Done
+status_of_answer (answers.Line s line) = s
+
+abbrev pub status_of : Result Answer Status → Status
+status_of (Ok a) = status_of_answer a
+status_of (Err s) = s
+
+abbrev pub out_of_answer : Answer → List ℕ
+out_of_answer (answers.Text out) = out
+out_of_answer (answers.Line s line) = []
+
+abbrev pub out_of : Result Answer Status → List ℕ
+out_of (Ok a) = out_of_answer a
 out_of (Err s) = []
 
-abbrev pub status_of : Result (List ℕ) Status → Status
-status_of (Ok out) = Done
-status_of (Err s) = s
+abbrev pub line_of_answer : Answer → List ℕ
+line_of_answer (answers.Text out) = []
+line_of_answer (answers.Line s line) = line
+
+abbrev pub line_to : Result Answer Status → List ℕ
+line_to (Ok a) = line_of_answer a
+line_to (Err s) = line_of s
 
 -- a part of what was to be written was taken: of standard output and nothing else, or all of it and a part of the line
 abbrev pub WritesPart : Option (List ℕ) → Option (List ℕ) → Option (List ℕ) → Option (List ℕ) → List ℕ → List ℕ → Type 0
@@ -85,17 +158,22 @@ WritesPart out out_now err err_now bytes line =
     (TakesPart out out_now bytes × (err_now ≡ err)) ⊎ (Takes out out_now bytes × TakesPart err err_now line)
 
 -- where a write failed: the status that was to be, and the part of its bytes that was taken
-abbrev pub WritesPartOf : (Status → List ℕ → Type 0) → Option (List ℕ) → Option (List ℕ) → Option (List ℕ) → Option (List ℕ) → Type 0
+abbrev pub WritesPartOf : (Status → List ℕ → List ℕ → Type 0) → Option (List ℕ) → Option (List ℕ) → Option (List ℕ) → Option (List ℕ) → Type 0
 WritesPartOf Answer out out_now err err_now =
-    (s : Status) × (bytes : List ℕ) × Answer s bytes × WritesPart out out_now err err_now bytes (line_of s)
+    (s : Status) × (bytes : List ℕ) × (line : List ℕ) × Answer s bytes line × WritesPart out out_now err err_now bytes line
 
 -- all of an answer was written
-abbrev pub WritesAll : (Status → List ℕ → Type 0) → Status → Option (List ℕ) → Option (List ℕ) → Option (List ℕ) → Option (List ℕ) → Type 0
+abbrev pub WritesAll : (Status → List ℕ → List ℕ → Type 0) → Status → Option (List ℕ) → Option (List ℕ) → Option (List ℕ) → Option (List ℕ) → Type 0
 WritesAll Answer s out out_now err err_now =
-    (bytes : List ℕ) × Answer s bytes × Takes out out_now bytes × Takes err err_now (line_of s)
+    (bytes : List ℕ) × (line : List ℕ) × Answer s bytes line × Takes out out_now bytes × Takes err err_now line
 
--- a text of the form that is read is accepted, memory and stream faults aside
+-- the status that a text of the form has
+abbrev pub IsExpected : Command → Linked → Status → Type 0
+IsExpected Analyze repo s = s ≡ Done
+IsExpected (Run steps asserted) repo s = HasStatus (ran repo steps asserted).outcome s
+
+-- a text of the form that is read has it, memory and stream faults aside
 abbrev pub Accepts : List (List ℕ) → Option (List ℕ) → Status → Type 0
 Accepts words left s =
-    (bytes : List ℕ) (repo : Linked) → words ≡ analyze → left ≡ Some bytes → IsReadText bytes repo
-    → (s ≡ Done) ⊎ ((s ≡ NoMemory) ⊎ ((s ≡ ReadFault) ⊎ (s ≡ WriteFault)))
+    (c : Command) (bytes : List ℕ) (repo : Linked) → command_of words ≡ Some c → left ≡ Some bytes → IsReadText bytes repo
+    → IsExpected c repo s ⊎ ((s ≡ NoMemory) ⊎ ((s ≡ ReadFault) ⊎ (s ≡ WriteFault)))

@@ -3,3 +3,7 @@ pub mod ReadText
 pub mod Forms
 pub mod Pieces
 pub mod Reading
+pub mod Running
+pub mod Words
+pub mod Report
+pub mod Commands

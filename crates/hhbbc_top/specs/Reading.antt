@@ -6,7 +6,7 @@ use Rattle.std.specs.Ordering.{int_eq}
 use Rattle.hhas_lex.specs.Tokens.{Token, Directive, Word, Local, Mark, tokens}
 use Rattle.hhbc_ops.specs.declared.op.Op.{Op}
 use Rattle.hhbc_ops.specs.declared.op.Op.TheVariants as ops
-use Rattle.hhbc_ops.specs.Ops.{op_name}
+use Rattle.hhbc_ops.specs.Ops.{op_called}
 use Rattle.type_lattice.specs.declared.types.HType.{HType}
 use Rattle.hhbc_repo.specs.declared.body.Assert.{Assert}
 use Rattle.hhbc_repo.specs.declared.body.Assert.TheVariants as asserts
@@ -23,16 +23,8 @@ abbrev pub chain : {A B : Type 0} → Option A → (A → Option B) → Option B
 chain None f = None
 chain (Some x) f = f x
 
--- the first of these instructions that has the name
-abbrev pub named_among : List Op → List ℕ → Option Op
-named_among [] name = None
-named_among (op ∷ more) name = if pointwise nat_eq (op_name op) name then Some op else named_among more name
-
-abbrev pub all_ops : List Op
-all_ops = ops.Null ∷ ops.True ∷ ops.False ∷ ops.Int ∷ ops.PopC ∷ ops.SetL ∷ ops.CGetL ∷ ops.RetC ∷ []
-
 unfoldable pub op_of : List ℕ → Option Op
-op_of name = named_among all_ops name
+op_of name = op_called name
 
 -- locals behind ".declvars" through ";", behind those that were read
 abbrev pub names_from : List (List ℕ) → List Token → Option (List (List ℕ) × List Token)
@@ -54,6 +46,7 @@ with_int x = Some (steps.Int x.0, x.1)
 abbrev pub with_number : (ℕ → Step) → ℕ × List Token → Option (Step × List Token)
 with_number make x = Some (make x.0, x.1)
 
+-- the operands of an instruction of the form
 abbrev pub step_of : List (List ℕ) → Op → List Token → Option (Step × List Token)
 step_of locals ops.Null ts = Some (steps.Null, ts)
 step_of locals ops.True ts = Some (steps.True, ts)
@@ -63,6 +56,7 @@ step_of locals ops.PopC ts = Some (steps.PopC, ts)
 step_of locals ops.SetL ts = chain (number_in locals ts) (with_number steps.SetL)
 step_of locals ops.CGetL ts = chain (number_in locals ts) (with_number steps.CGetL)
 step_of locals ops.RetC ts = Some (steps.RetC, ts)
+step_of locals _ ts = None
 
 -- the code of a name, with the operands behind the name
 abbrev pub step_in : List (List ℕ) → List ℕ → List Token → Option (Step × List Token)

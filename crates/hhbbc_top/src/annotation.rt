@@ -14,7 +14,7 @@ use hack_values::{Cell, NoMemory, Seq, Text};
 use hhbc_ops::Op;
 use hhbc_repo::{Assert, Body, Code, Imm, Instr, Position, Repo};
 use std::alloc::Global;
-use type_lattice::{HType, IntPart, ObjPart, StrPart, le, of_literal};
+use type_lattice::{ClassTree, HType, IntPart, ObjPart, StrPart, le, of_literal};
 
 /// The types of the locals, and of the slots of the stack with the top last.
 #[derive(Drop)]
@@ -22,11 +22,6 @@ pub struct Types {
     pub locals: Vec<HType>,
     pub stack: Vec<HType>,
 }
-
-const UNINIT: HType = HType {
-    uninit: true,
-    ..HType::NEVER
-};
 
 fn lacks_ints(part: IntPart) -> bool
     ensures { result ≡ no_ints part }
@@ -112,7 +107,7 @@ fn entry(alloc: Global, locals: usize) -> Result<Types, NoMemory>
     ensures { IfOk result (λ t. state_of t ≡ record { locals = replicate locals types.uninit; stack = []; iters = [] }) }
 {
     Ok(Types {
-        locals: vec![in alloc; UNINIT; locals]?,
+        locals: vec![in alloc; HType::UNINIT; locals]?,
         stack: Vec::new(alloc),
     })
 }
@@ -182,13 +177,18 @@ fn advance(ts: &mut Types, reached: bool, step: Step) -> Result<bool, NoMemory>
 }
 
 /// Adds the assertion of a local's type, unless every cell is of it.
-fn claim_local(claims: &mut Seq<Assert>, local: u8, t: Option<HType>) -> Result<(), NoMemory>
+fn claim_local(
+    alloc: Global,
+    claims: &mut Seq<Assert>,
+    local: u8,
+    t: Option<HType>,
+) -> Result<(), NoMemory>
     ensures { OnOk result (claims.new ≡ claims.old ++ annotated.claim (λ u. Assert.Local local u) t) }
 {
     let Some(t) = t else {
         return Ok(());
     };
-    if holds_all_cells(&t) {
+    if holds_all_cells(alloc, &t) {
         Ok(())
     } else {
         claims.push(Assert::Local(local, t))
@@ -196,24 +196,34 @@ fn claim_local(claims: &mut Seq<Assert>, local: u8, t: Option<HType>) -> Result<
 }
 
 /// Adds the assertion of the type of the topmost slot, unless every cell is of it.
-fn claim_top(claims: &mut Seq<Assert>, t: Option<HType>) -> Result<(), NoMemory>
+fn claim_top(alloc: Global, claims: &mut Seq<Assert>, t: Option<HType>) -> Result<(), NoMemory>
     ensures { OnOk result (claims.new ≡ claims.old ++ annotated.claim (λ u. Assert.Stack 0 u) t) }
 {
     let Some(t) = t else {
         return Ok(());
     };
-    if holds_all_cells(&t) {
+    if holds_all_cells(alloc, &t) {
         Ok(())
     } else {
         claims.push(Assert::Stack(0, t))
     }
 }
 
-/// Whether every cell is of the type.
-fn holds_all_cells(t: &HType) -> bool
+/// The tree without classes.
+fn no_classes(alloc: Global) -> ClassTree
+    ensures { result ≡ [] }
+{
+    match ClassTree::new(Seq::new(alloc)) {
+        Some(tree) => tree,
+        None => unreachable!(),
+    }
+}
+
+/// Whether every cell is of the type. Its classes don't matter for that.
+fn holds_all_cells(alloc: Global, t: &HType) -> bool
     ensures { result ≡ is_whole t.now }
 {
-    le(&HType::CELL, t)
+    le(&HType::CELL, t, &no_classes(alloc))
 }
 
 /// The assertions before a code that is reached.
@@ -224,11 +234,11 @@ fn claims_of(alloc: Global, ts: &Types, step: Step) -> Result<Seq<Assert>, NoMem
     let mut claims = Seq::new(alloc);
     match step {
         Step::CGetL(local) => {
-            claim_local(&mut claims, local, type_at(&ts.locals, local))?;
+            claim_local(alloc, &mut claims, local, type_at(&ts.locals, local))?;
             Ok(claims)
         }
         Step::PopC | Step::SetL(_) | Step::RetC => {
-            claim_top(&mut claims, top_of(&ts.stack))?;
+            claim_top(alloc, &mut claims, top_of(&ts.stack))?;
             Ok(claims)
         }
         Step::Null | Step::True | Step::False | Step::Int(_) => Ok(claims),

@@ -12,11 +12,6 @@ use hhbc_repo::Assert;
 use std::alloc::Global;
 use type_lattice::{HType, IntPart, StrPart};
 
-const UNINIT: HType = HType {
-    uninit: true,
-    ..HType::NEVER
-};
-
 const NULL: HType = HType {
     null: true,
     ..HType::NEVER
@@ -70,7 +65,7 @@ fn word_type(word: &[u8]) -> Result<HType, ReadFault>
     } else if word == b"Cell".as_slice() {
         Ok(HType::CELL)
     } else if word == b"Uninit".as_slice() {
-        Ok(UNINIT)
+        Ok(HType::UNINIT)
     } else if word == b"Null".as_slice() {
         Ok(NULL)
     } else if word == b"False".as_slice() {

@@ -101,6 +101,7 @@ fn step_of(reader: &mut Reader, locals: &[Text], op: Op) -> Result<Step, ReadFau
         Op::SetL => Ok(Step::SetL(number(reader, locals)?)),
         Op::CGetL => Ok(Step::CGetL(number(reader, locals)?)),
         Op::RetC => Ok(Step::RetC),
+        _ => Err(ReadFault::OtherForm),
     }
 }
 

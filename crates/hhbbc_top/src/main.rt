@@ -6,11 +6,14 @@ ghost use Rattle.std.specs.Prelude.{◌≡◌, ◌⊎◌, IfErr};
 mod annotation;
 mod claims;
 mod form;
+mod machine;
 mod reader;
+mod report;
 mod status;
 #[cfg(test)]
 mod tests;
 mod top;
+mod words;
 mod writer;
 
 use hack_values::{Seq, Text};

@@ -6,6 +6,12 @@ ghost use Rattle.hhbbc_top.specs.Answer as answer;
 pub enum Status {
     /// All was done.
     Done,
+    /// A run ended with an exception that nothing caught.
+    Uncaught,
+    /// A run reached its bound of steps.
+    StepsSpent,
+    /// A run met an assertion that doesn't hold.
+    AssertFalse,
     /// The words name no command.
     Usage,
     /// The text has more bytes than the command takes.
@@ -27,6 +33,9 @@ impl Status {
     {
         match self {
             Status::Done => 0,
+            Status::Uncaught => 1,
+            Status::StepsSpent => 3,
+            Status::AssertFalse => 4,
             Status::Usage => 64,
             Status::TooLong => 69,
             Status::NoMemory => 70,
@@ -37,12 +46,16 @@ impl Status {
     }
 }
 
-/// The line to standard error of a status.
+/// The line to standard error of a status that no run ends with; a run has a line of its own.
 pub fn line_of(status: Status) -> &'static [u8]
     ensures { result.now ≡ answer.line_of status }
 {
     match status {
-        Status::Done | Status::WriteFault => b"",
+        Status::Done
+        | Status::Uncaught
+        | Status::StepsSpent
+        | Status::AssertFalse
+        | Status::WriteFault => b"",
         Status::Usage => b"usage\n",
         Status::TooLong => b"too long\n",
         Status::NoMemory => b"no memory\n",

@@ -22,6 +22,15 @@ const NEVER_SET_ANNOTATED: &[u8] =
 const CLAIMED: &[u8] =
     b".profile 1;\n.function main() .returns Int=3 {\n  .declvars $x;\n  AssertRATL $x Uninit\n  Int 2\n  AssertRATStk 0 Bool\n  AssertRATL $x Cell\n  SetL $x\n  PopC\n  AssertRATL $x Str\n  CGetL $x\n  AssertRATStk 0 Int\n  AssertRATStk 0 Null\n  RetC\n}\n";
 
+const RUN: &[u8] = b"run";
+
+const STEPS: &[u8] = b"--steps";
+
+const ASSERTS: &[u8] = b"--asserts";
+
+const FALSELY_CLAIMED: &[u8] =
+    b".profile 1;\n.function main() {\n  .declvars $x;\n  Int 2\n  SetL $x\n  PopC\n  AssertRATL $x Str\n  CGetL $x\n  RetC\n}\n";
+
 fn numbers(alloc: Global, items: &[u64]) -> Result<Seq<u64>, Fail> {
     let mut list = Seq::new(alloc);
     for item in items {
@@ -193,6 +202,102 @@ fn other_forms_are_not_yet(rt: HostRuntime) -> Result<(), Fail> {
             text,
             NONE,
             (Status::NotYet, b"", b"not yet\n"),
+        )?;
+    }
+    Ok(())
+}
+
+#[test]
+fn runs_end_as_they_should(rt: HostRuntime) -> Result<(), Fail> {
+    let spent = (
+        Status::StepsSpent,
+        b"".as_slice(),
+        b"steps spent\n".as_slice(),
+    );
+    let two = (Status::Done, b"".as_slice(), b"returned 2\n".as_slice());
+    let undefined = (
+        Status::Uncaught,
+        b"".as_slice(),
+        b"uncaught UndefinedVariableException \"undefined $x\" at main@0\n".as_slice(),
+    );
+    let assert_false = (
+        Status::AssertFalse,
+        b"".as_slice(),
+        b"assert false at main@3\n".as_slice(),
+    );
+    for (words, text, wanted) in [
+        ([RUN, STEPS, b"4"].as_slice(), FIRST, spent),
+        (&[RUN, STEPS, b"4", ASSERTS], FIRST_ANNOTATED, spent),
+        (&[RUN, STEPS, b"5"], FIRST, two),
+        (&[RUN, STEPS, b"5", ASSERTS], FIRST_ANNOTATED, two),
+        (&[RUN, STEPS, b"1000000000"], FIRST, two),
+        (&[RUN], FALSELY_CLAIMED, two),
+        (&[RUN, ASSERTS], FALSELY_CLAIMED, assert_false),
+        (
+            &WORDS,
+            FALSELY_CLAIMED,
+            (Status::Done, FIRST_ANNOTATED, b""),
+        ),
+        (&[RUN], NEVER_SET, undefined),
+        (&[RUN, ASSERTS], NEVER_SET_ANNOTATED, undefined),
+        (
+            &[RUN],
+            b".profile 1;.function main(){Null RetC}",
+            (Status::Done, b"", b"returned null\n"),
+        ),
+        (
+            &[RUN],
+            b".profile 1;.function main(){True RetC}",
+            (Status::Done, b"", b"returned true\n"),
+        ),
+        (
+            &[RUN],
+            b".profile 1;.function main(){False RetC}",
+            (Status::Done, b"", b"returned false\n"),
+        ),
+        (
+            &[RUN],
+            b".profile 1;.function main(){.declvars $a\\b;CGetL $a\\b RetC}",
+            (
+                Status::Uncaught,
+                b"",
+                b"uncaught UndefinedVariableException \"undefined $a\\\\b\" at main@0\n",
+            ),
+        ),
+        (&[RUN], b"", (Status::NotYet, b"", b"not yet\n")),
+    ] {
+        expect(&rt, rt.alloc(), words, text, NONE, wanted)?;
+    }
+    Ok(())
+}
+
+#[test]
+fn other_words_are_usage(rt: HostRuntime) -> Result<(), Fail> {
+    for words in [
+        [RUN, STEPS].as_slice(),
+        &[RUN, STEPS, b"0"],
+        &[RUN, STEPS, b"01"],
+        &[RUN, STEPS, b""],
+        &[RUN, STEPS, b"+5"],
+        &[RUN, STEPS, b"5 "],
+        &[RUN, STEPS, b"1000000001"],
+        &[RUN, STEPS, b"18446744073709551617"],
+        &[RUN, STEPS, ASSERTS],
+        &[RUN, ASSERTS, STEPS, b"5"],
+        &[RUN, ASSERTS, ASSERTS],
+        &[RUN, STEPS, b"5", STEPS, b"5"],
+        &[RUN, b"main"],
+        &[RUN, RUN],
+        &[b"analyze", ASSERTS],
+        &[b"Run"],
+    ] {
+        expect(
+            &rt,
+            rt.alloc(),
+            words,
+            FIRST,
+            NONE,
+            (Status::Usage, b"", b"usage\n"),
         )?;
     }
     Ok(())

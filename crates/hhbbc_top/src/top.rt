@@ -1,25 +1,41 @@
 //! The top call: words and bytes in, a status and bytes out.
 
-ghost use Rattle.std.specs.Prelude.{◌≡◌, ◌≢◌, ◌⊎◌, ◌≤◌, ◌+◌, ◌↔◌, ℕ, List, [], Ok, Err, Some, IsTrue, IfSome, IfOk, MatchResult, OnOk, length};
+ghost use Rattle.std.specs.Prelude.{◌≡◌, ◌≢◌, ◌⊎◌, ◌≤◌, ◌<◌, ◌+◌, ◌^◌, ℕ, List, [], Ok, Err, None, IfSome, IfOk, MatchResult, OnOk, length};
 ghost use Rattle.std.specs.Io.KnownBytes.{IsAtEnd};
 ghost use Rattle.hh_io.specs.Counts.{Rose};
 ghost use Rattle.hh_io.specs.Sources.{IsLonger, IsWithin, ReadsPerByte};
 ghost use Rattle.hh_io.specs.Sinks.{Takes, TakesPart};
+ghost use Rattle.hhbc_repo.specs.Truth.{IsNeverStuck};
 ghost use Rattle.hhbbc_top.specs.Answer as answers;
-ghost use Rattle.hhbbc_top.specs.Forms.{annotated_text};
+ghost use Rattle.hhbbc_top.specs.Commands as commands;
+ghost use Rattle.hhbbc_top.specs.Forms.{repo_of};
+ghost use Rattle.hhbbc_top.specs.Words.{command_of};
 
 use crate::annotation::annotated;
 use crate::form::{Main, read, read_text_has_words, reading_is_complete, reading_is_sound};
+use crate::machine::{Ending, run};
 use crate::reader::ReadFault;
+use crate::report::report_of;
 use crate::status::{Status, line_of};
+use crate::words::{Command, command_of};
 use crate::writer::text_of;
 use func_analyze::{bare_chain_annotates, second_is_faithful, second_is_unique};
 use hack_values::{NoMemory, Text};
 use hh_io::{ReadError, Sink, Source, read_all, write_all};
+use hhbc_repo::second_form_never_sticks;
 use std::alloc::Global;
 
-/// The longest text that is read, in bytes.
-pub const LIMIT: u32 = 16_777_216;
+/// The longest text of the form that is read, in bytes.
+const FORM_LIMIT: usize = 16_777_216;
+
+/// What is to be written where a command did its work.
+#[derive(Drop)]
+pub enum Answer {
+    /// A text for standard output.
+    Text(Text),
+    /// The status of a run, and its line for standard error.
+    Line(Status, Text),
+}
 
 /// All that the program does: `words` are the words behind its name. The text comes from `source`,
 /// the annotated text goes to `out`, and the line of a status to `err`. Where a write fails the status is
@@ -31,11 +47,11 @@ pub fn hhbbc<S: Source, K: Sink, E: Sink>(
     out: &mut K,
     err: &mut E,
 ) -> Status
-    ensures usage { result ≡ Status.Usage → words.now ≢ answers.analyze }
-    ensures other_words { words.now ≢ answers.analyze → (source.new ≡ source.old) × ((result ≡ Status.Usage) ⊎ (result ≡ Status.WriteFault)) }
+    ensures usage { result ≡ Status.Usage → command_of words.now ≡ None }
+    ensures other_words { command_of words.now ≡ None → (source.new ≡ source.old) × ((result ≡ Status.Usage) ⊎ (result ≡ Status.WriteFault)) }
     ensures read_fault { result ≡ Status.ReadFault → Rose (S.faults source.old) (S.faults source.new) }
-    ensures too_long { result ≡ Status.TooLong → IsLonger (S.left source.old) LIMIT }
-    ensures not_yet { result ≡ Status.NotYet → IsAtEnd (S.left source.new) × IsWithin (S.left source.old) LIMIT × IfSome (S.left source.old) answers.IsOtherText }
+    ensures too_long { result ≡ Status.TooLong → IsLonger (S.left source.old) (answers.read_limit (command_of words.now)) }
+    ensures not_yet { result ≡ Status.NotYet → IsAtEnd (S.left source.new) × IsWithin (S.left source.old) (answers.read_limit (command_of words.now)) × IfSome (S.left source.old) answers.IsOtherText }
     ensures no_memory { result ≡ Status.NoMemory → out.new ≡ out.old }
     ensures write_fault { result ≡ Status.WriteFault → Rose (K.faults out.old) (K.faults out.new) ⊎ Rose (E.faults err.old) (E.faults err.new) }
 
@@ -46,57 +62,56 @@ pub fn hhbbc<S: Source, K: Sink, E: Sink>(
     ensures accepts { answers.Accepts words.now (S.left source.old) result }
 
     ensures later { S.reads source.old ≤ S.reads source.new }
-    ensures reads { S.reads source.new ≤ S.reads source.old + LIMIT + 2 }
+    ensures reads { S.reads source.new ≤ S.reads source.old + answers.read_limit (command_of words.now) + 2 }
     ensures reads_told { ReadsPerByte (S.left source.old) (S.left source.new) (S.reads source.old) (S.reads source.new) }
 {
-    let answer = answer(alloc, words, source);
+    let answer = answer_for(alloc, words, source);
     deliver(out, err, answer)
 }
 
-/// What is to be written: the bytes for standard output where all was done, or the status.
-fn answer<S: Source>(alloc: Global, words: &[Text], source: &mut S) -> Result<Text, Status>
-    ensures answer { MatchResult result (answers.IsAnswer words.now (S.left source.old) (S.left source.new) (S.faults source.old) (S.faults source.new) Status.Done) (λ s. answers.IsAnswer words.now (S.left source.old) (S.left source.new) (S.faults source.old) (S.faults source.new) s []) }
-    ensures other_words { words.now ≢ answers.analyze → (source.new ≡ source.old) × (result ≡ Err Status.Usage) }
+/// What is to be written, or the status in its place.
+fn answer_for<S: Source>(alloc: Global, words: &[Text], source: &mut S) -> Result<Answer, Status>
+    ensures answer { answers.IsAnswer words.now (S.left source.old) (S.left source.new) (S.faults source.old) (S.faults source.new) (answers.status_of result) (answers.out_of result) (answers.line_to result) }
+    ensures other_words { command_of words.now ≡ None → (source.new ≡ source.old) × (result ≡ Err Status.Usage) }
     ensures later { S.reads source.old ≤ S.reads source.new }
-    ensures reads { S.reads source.new ≤ S.reads source.old + LIMIT + 2 }
+    ensures reads { S.reads source.new ≤ S.reads source.old + answers.read_limit (command_of words.now) + 2 }
     ensures reads_told { ReadsPerByte (S.left source.old) (S.left source.new) (S.reads source.old) (S.reads source.new) }
 {
-    if is_analyze(words) {
-        analyze(alloc, source)
-    } else {
-        Err(Status::Usage)
+    match command_of(words) {
+        Some(command) => obey(alloc, command, source),
+        None => Err(Status::Usage),
     }
 }
 
-/// Whether these are the words of the one command.
-fn is_analyze(words: &[Text]) -> bool
-    ensures { IsTrue result ↔ (words.now ≡ answers.analyze) }
+/// The most bytes that a command takes.
+fn limit_of(command: Command) -> u32
+    ensures { result ≡ answers.limit_of command }
 {
-    match words {
-        [word] => word.bytes() == b"analyze".as_slice(),
-        _ => false,
+    match command {
+        Command::Analyze => 16_777_216,
+        Command::Run(_, _) => 134_217_728,
     }
 }
 
-/// The annotated text of what the source has, or the status in its place.
-fn analyze<S: Source>(alloc: Global, source: &mut S) -> Result<Text, Status>
-    ensures answer { MatchResult result (answers.IsAnswer answers.analyze (S.left source.old) (S.left source.new) (S.faults source.old) (S.faults source.new) Status.Done) (λ s. answers.IsAnswer answers.analyze (S.left source.old) (S.left source.new) (S.faults source.old) (S.faults source.new) s []) }
+/// Reads the source, and does with its text what the command says.
+fn obey<S: Source>(alloc: Global, command: Command, source: &mut S) -> Result<Answer, Status>
+    ensures answer { answers.Obeys command (S.left source.old) (S.left source.new) (S.faults source.old) (S.faults source.new) (answers.status_of result) (answers.out_of result) (answers.line_to result) }
     ensures later { S.reads source.old ≤ S.reads source.new }
-    ensures reads { S.reads source.new ≤ S.reads source.old + LIMIT + 2 }
+    ensures reads { S.reads source.new ≤ S.reads source.old + answers.limit_of command + 2 }
     ensures reads_told { ReadsPerByte (S.left source.old) (S.left source.new) (S.reads source.old) (S.reads source.new) }
 {
-    match read_all(alloc, source, LIMIT) {
-        Ok(text) => answer_of(alloc, text.bytes()),
+    match read_all(alloc, source, limit_of(command)) {
+        Ok(text) => answer_to(alloc, command, text.bytes()),
         Err(ReadError::ReadFailed) => Err(Status::ReadFault),
         Err(ReadError::TooLong) => Err(Status::TooLong),
         Err(ReadError::NoMemory) => Err(Status::NoMemory),
     }
 }
 
-/// The annotated text of a text of the form that is read.
-fn answer_of(alloc: Global, text: &[u8]) -> Result<Text, Status>
-    requires { length text.now ≤ LIMIT }
-    ensures { MatchResult result (answers.IsAnnotatedText text.now) (λ s. ((s ≡ Status.NotYet) × answers.IsOtherText text.now) ⊎ (s ≡ Status.NoMemory)) }
+/// What a command answers to a text.
+fn answer_to(alloc: Global, command: Command, text: &[u8]) -> Result<Answer, Status>
+    requires { length text.now < 2 ^ 32 }
+    ensures { commands.AnswersTo command text.now (answers.status_of result) (answers.out_of result) (answers.line_to result) }
 {
     reading_is_sound();
     reading_is_complete();
@@ -104,48 +119,79 @@ fn answer_of(alloc: Global, text: &[u8]) -> Result<Text, Status>
     second_is_faithful();
     read_text_has_words();
     second_is_unique();
+    second_form_never_sticks();
+    if text.len() > FORM_LIMIT {
+        return Err(Status::NotYet);
+    }
     match read(alloc, text) {
-        Ok(main) => written(alloc, main),
+        Ok(main) => done(alloc, command, main),
         Err(ReadFault::OtherForm) => Err(Status::NotYet),
         Err(ReadFault::NoMemory) => Err(Status::NoMemory),
     }
 }
 
-fn written(alloc: Global, main: Main) -> Result<Text, Status>
-    ensures { MatchResult result (λ out. out ≡ annotated_text main) (λ s. s ≡ Status.NoMemory) }
+/// What a command makes of the function of a text.
+fn done(alloc: Global, command: Command, main: Main) -> Result<Answer, Status>
+    requires { IsNeverStuck (repo_of main) }
+    ensures { commands.Does command main result }
+{
+    match command {
+        Command::Analyze => written(alloc, main),
+        Command::Run(steps, asserted) => reported(alloc, &main, steps, asserted),
+    }
+}
+
+/// The annotated text of a function.
+fn written(alloc: Global, main: Main) -> Result<Answer, Status>
+    ensures { commands.Does Command.Analyze main result }
 {
     let Ok(repo) = annotated(alloc, main) else {
         return Err(Status::NoMemory);
     };
     match text_of(alloc, &repo) {
-        Ok(text) => Ok(text),
+        Ok(text) => Ok(Answer::Text(text)),
+        Err(NoMemory) => Err(Status::NoMemory),
+    }
+}
+
+/// How a function runs.
+fn reported(alloc: Global, main: &Main, steps: u32, asserted: bool) -> Result<Answer, Status>
+    requires { IsNeverStuck (repo_of main.now) }
+    ensures { commands.Does (Command.Run steps asserted) main.now result }
+{
+    let Ok(ending) = run(alloc, main, steps, asserted) else {
+        return Err(Status::NoMemory);
+    };
+    match report_of(alloc, main, ending) {
+        Ok(report) => Ok(Answer::Line(report.status, report.line)),
         Err(NoMemory) => Err(Status::NoMemory),
     }
 }
 
 /// Writes an answer: first what goes to standard output, then the line of its status.
-fn deliver<K: Sink, E: Sink>(out: &mut K, err: &mut E, answer: Result<Text, Status>) -> Status
+fn deliver<K: Sink, E: Sink>(out: &mut K, err: &mut E, answer: Result<Answer, Status>) -> Status
     requires { answers.status_of answer ≢ Status.WriteFault }
     ensures status { result ≢ Status.WriteFault → result ≡ answers.status_of answer }
-    ensures all { result ≢ Status.WriteFault → Takes (K.taken out.old) (K.taken out.new) (answers.out_of answer) × Takes (E.taken err.old) (E.taken err.new) (answers.line_of (answers.status_of answer)) }
-    ensures part { result ≡ Status.WriteFault → answers.WritesPart (K.taken out.old) (K.taken out.new) (E.taken err.old) (E.taken err.new) (answers.out_of answer) (answers.line_of (answers.status_of answer)) }
+    ensures all { result ≢ Status.WriteFault → Takes (K.taken out.old) (K.taken out.new) (answers.out_of answer) × Takes (E.taken err.old) (E.taken err.new) (answers.line_to answer) }
+    ensures part { result ≡ Status.WriteFault → answers.WritesPart (K.taken out.old) (K.taken out.new) (E.taken err.old) (E.taken err.new) (answers.out_of answer) (answers.line_to answer) }
     ensures cause { result ≡ Status.WriteFault → Rose (K.faults out.old) (K.faults out.new) ⊎ Rose (E.faults err.old) (E.faults err.new) }
     ensures kept { result ≢ Status.WriteFault → (K.faults out.new ≡ K.faults out.old) × (E.faults err.new ≡ E.faults err.old) }
-    ensures untouched { MatchResult answer (λ _. Unit {0}) (λ _. out.new ≡ out.old) }
+    ensures untouched { answers.status_of answer ≢ Status.Done → out.new ≡ out.old }
 {
     match answer {
-        Ok(text) => {
+        Ok(Answer::Text(text)) => {
             if write_all(out, text.bytes()).is_ok() {
                 finish(err, Status::Done)
             } else {
                 Status::WriteFault
             }
         }
+        Ok(Answer::Line(status, line)) => write_line(err, line.bytes(), status),
         Err(status) => finish(err, status),
     }
 }
 
-/// Writes the line of a status, and answers it, or WriteFault where that failed.
+/// Writes the line of a status that no run ends with, and answers the status, or WriteFault where that failed.
 pub fn finish<E: Sink>(err: &mut E, status: Status) -> Status
     requires { status ≢ Status.WriteFault }
     ensures status { result ≢ Status.WriteFault → result ≡ status }
@@ -154,7 +200,18 @@ pub fn finish<E: Sink>(err: &mut E, status: Status) -> Status
     ensures cause { result ≡ Status.WriteFault → Rose (E.faults err.old) (E.faults err.new) }
     ensures kept { result ≢ Status.WriteFault → E.faults err.new ≡ E.faults err.old }
 {
-    if write_all(err, line_of(status)).is_ok() {
+    write_line(err, line_of(status), status)
+}
+
+fn write_line<E: Sink>(err: &mut E, line: &[u8], status: Status) -> Status
+    requires { status ≢ Status.WriteFault }
+    ensures status { result ≢ Status.WriteFault → result ≡ status }
+    ensures all { result ≢ Status.WriteFault → Takes (E.taken err.old) (E.taken err.new) line.now }
+    ensures part { result ≡ Status.WriteFault → TakesPart (E.taken err.old) (E.taken err.new) line.now }
+    ensures cause { result ≡ Status.WriteFault → Rose (E.faults err.old) (E.faults err.new) }
+    ensures kept { result ≢ Status.WriteFault → E.faults err.new ≡ E.faults err.old }
+{
+    if write_all(err, line).is_ok() {
         status
     } else {
         Status::WriteFault

@@ -1,8 +1,20 @@
-//! The instructions and their names, after HHVM's `doc/bytecode.specification`.
+//! The instructions, their operands and their names, after HHVM's `doc/bytecode.specification`.
 #![tactic(auto)]
 
+mod laws;
+mod named;
 mod op;
+mod table;
+mod word_names;
 mod words;
 
-pub use op::{Op, immediates, name_of, op_named};
-pub use words::{ImmKind, IncDecOp, IsTypeOp, QueryMode, SetOpOp};
+pub use laws::names_differ;
+pub use op::{Op, has_next, immediates, may_throw, name_of, op_named};
+pub use word_names::{
+    inc_dec_name, inc_dec_named, is_type_name, is_type_named, query_mode_name, query_mode_named,
+    set_op_name, set_op_named,
+};
+pub use words::{Flavour, ImmKind, IncDecOp, IsTypeOp, QueryMode, SetOpOp};
+
+#[cfg(test)]
+mod tests;

@@ -1,3 +1,10 @@
+/// What a place of the stack is for: a cell, or the Uninit that a call wants.
+#[derive(Clone, Copy, Debug, PartialEq, Eq)]
+pub enum Flavour {
+    C,
+    U,
+}
+
 /// The operator of a compound assignment.
 #[derive(Clone, Copy, Debug, PartialEq, Eq)]
 pub enum SetOpOp {

@@ -9,3 +9,4 @@ pub mod StaysTrue
 pub mod Stripped
 pub mod TestedRuns
 pub mod Walking
+mod LinkExamples

@@ -16,7 +16,8 @@ use Rattle.hhbc_repo.specs.Linked.{Linked}
 use Rattle.hhbc_repo.specs.Bodies.{body_at, code_of, code_at, asserts_at, tree_of}
 use Rattle.hhbc_repo.specs.Bodies.{asserts_of as asserts_in_position}
 use Rattle.hhbc_repo.specs.Bare.{bare, bare_position}
-use Rattle.hhbc_repo.specs.Codes.{Flavour, pops}
+use Rattle.hhbc_ops.specs.declared.words.Flavour.{Flavour}
+use Rattle.hhbc_repo.specs.Codes.{pops}
 use Rattle.hhbc_repo.specs.Form.{FitsCode, FitAsserts, IsSecondBody}
 use Rattle.hhbc_repo.specs.Machine.{World, Frame, turn}
 use Rattle.hhbc_repo.specs.Outcome.{Outcome, Why, Underflow, Stuck, AssertFalse}

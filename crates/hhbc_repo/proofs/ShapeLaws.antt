@@ -12,7 +12,10 @@ use Rattle.hhbc_repo.specs.declared.code.Imm.TheVariants as imms
 use Rattle.hhbc_repo.specs.declared.body.Body.{Body}
 use Rattle.hhbc_repo.specs.Linked.{Linked}
 use Rattle.hhbc_repo.specs.Bodies.{bodies, body_at, code_at}
-use Rattle.hhbc_repo.specs.Codes.{Flavour, C, U, local_of, op_pops, op_pushes, op_goes_on, op_throws, pops, pushes, throws, goes_on, labels}
+use Rattle.hhbc_ops.specs.declared.words.Flavour.{Flavour}
+use Rattle.hhbc_ops.specs.declared.words.Flavour.TheVariants.{C, U}
+use Rattle.hhbc_ops.specs.Ops.{op_goes_on, op_throws}
+use Rattle.hhbc_repo.specs.Codes.{local_of, op_pops, op_pushes, pops, pushes, throws, goes_on, labels}
 use Rattle.hhbc_repo.specs.Edges.{Edge, Next, To, Handler, target, edges, next_edges, handler_of}
 use Rattle.hhbc_repo.specs.Form.{FitsOperands, FitsCode}
 use Rattle.hhbc_repo.specs.Machine.{World, Frame, Turn, Goes, Calls, Returns, Raises, Ends, Fails, Sticks, with_cell, read_slot, name_or_none, perform, perform_code, turn_in}
@@ -70,8 +73,8 @@ does_op count ops.SetL is b fs f w i l h =
 does_op count ops.CGetL (imms.Local n ∷ []) b fs f w i l h =
     does_local (C ∷ []) true fs f w f.locals n (name_or_none (slice_get b.locals n)) _ (omega (arith, i, l))
     (λ x. (refl, refl, (tt, h), refl, refl, refl))
-does_op count ops.CGetL _ b fs f w i l h = absurd i
 does_op count ops.RetC is b fs f w i l h = does_cell [] false false f w f.stack fs _ h (λ x rest more k all. tt)
+does_op count _ is b fs f w i l h = absurd i
 
 does_code : (count : ℕ) (c : Code) (b : Body) (fs : List Flavour) (f : Frame) (w : World) → FitsCode count c → length f.locals ≡ count
     → AreOfFlavours f.stack fs → Does (pops c) (pushes c) (goes_on c) (throws c) fs f (perform_code (Some c) b f w)

@@ -10,7 +10,8 @@ use Rattle.hhbc_repo.specs.declared.repo.Class.{Class}
 use Rattle.hhbc_repo.specs.Linked.{Linked}
 use Rattle.hhbc_repo.specs.Bodies.{bodies, body_at, code_of, code_at, asserts_of, asserts_at}
 use Rattle.hhbc_repo.specs.Bare.{bare, bare_body, bare_class, bare_position}
-use Rattle.hhbc_repo.specs.Codes.{Flavour, C, U}
+use Rattle.hhbc_ops.specs.declared.words.Flavour.{Flavour}
+use Rattle.hhbc_ops.specs.declared.words.Flavour.TheVariants.{C, U}
 use Rattle.hhbc_repo.specs.Edges.{Edge, target, edges, edges_of}
 use Rattle.hhbc_repo.specs.Shapes.{Shape, Check, given, given_after, given_by, handed, or_unled, shapes, edge_to, after, hands_on, agree, same_live, reaches, pops_of, stack_checks, edge_checks, all_edge_checks, last_checks, checks, first_fault, fault_at}
 use Rattle.hhbc_repo.proofs.Walking.{shapes_length}

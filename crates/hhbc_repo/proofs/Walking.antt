@@ -3,6 +3,9 @@ use Rattle.std.proofs.Common.{◌≡◌, ◌≢◌, ◌↔◌, ℕ, zero, suc, �
 use Rattle.std.proofs.lemmas.Bool.Decides.{Decides-eqb}
 use Rattle.hhbc_ops.specs.declared.op.Op.{Op}
 use Rattle.hhbc_ops.specs.declared.op.Op.TheVariants as ops
+use Rattle.hhbc_ops.specs.declared.words.Flavour.{Flavour}
+use Rattle.hhbc_ops.specs.declared.words.Flavour.TheVariants.{C, U}
+use Rattle.hhbc_ops.specs.Ops.{op_goes_on}
 use Rattle.hhbc_repo.specs.declared.code.Code.{Code}
 use Rattle.hhbc_repo.specs.declared.code.Code.TheVariants as kinds
 use Rattle.hhbc_repo.specs.declared.code.Imm.{Imm}
@@ -13,7 +16,7 @@ use Rattle.hhbc_repo.specs.declared.body.Body.{Body}
 use Rattle.hhbc_repo.specs.declared.body.Position.{Position}
 use Rattle.hhbc_repo.specs.Linked.{Linked}
 use Rattle.hhbc_repo.specs.Bodies.{code_at, asserts_at}
-use Rattle.hhbc_repo.specs.Codes.{Flavour, C, U, labels_in, labels, op_pops, op_pushes, pops, pushes, throws, goes_on, op_goes_on}
+use Rattle.hhbc_repo.specs.Codes.{labels_in, labels, op_pops, op_pushes, pops, pushes, throws, goes_on}
 use Rattle.hhbc_repo.specs.Edges.{Edge, Next, handler_of, handler_edges, next_edges, edges_of, edges}
 use Rattle.hhbc_repo.specs.Form.{FitsOperands, FitsCode, FitsPosition, FitPositions, IsReturn, IsFirstBody, IsFirstForm, FitAsserts, FitsStated, FitsClaimed, FitClaimed, IsSecondBody, IsSecondForm}
 use Rattle.hhbc_repo.specs.Shapes.{Shape, Check, ShapeKind, Underflow, WrongFlavour, TooManyCells, given, given_after, given_by, shapes, edge_to, after, behind, agree, same_live, edge_checks, all_edge_checks, last_checks, first_fault, fault_at, deepest, cells, reaches, pops_of, Types}
@@ -27,21 +30,14 @@ is_false false h = refl
 -- codes of the first form name no label
 op_labels : (count : ℕ) (op : Op) (is : List Imm) → FitsOperands count op is → flat_map labels_in is ≡ []
 op_labels count ops.Null [] h = refl
-op_labels count ops.Null (x ∷ xs) h = absurd h
 op_labels count ops.True [] h = refl
-op_labels count ops.True (x ∷ xs) h = absurd h
 op_labels count ops.False [] h = refl
-op_labels count ops.False (x ∷ xs) h = absurd h
 op_labels count ops.Int (imms.Int i ∷ []) h = refl
-op_labels count ops.Int _ h = absurd h
 op_labels count ops.PopC [] h = refl
-op_labels count ops.PopC (x ∷ xs) h = absurd h
 op_labels count ops.SetL (imms.Local l ∷ []) h = refl
-op_labels count ops.SetL _ h = absurd h
 op_labels count ops.CGetL (imms.Local l ∷ []) h = refl
-op_labels count ops.CGetL _ h = absurd h
 op_labels count ops.RetC [] h = refl
-op_labels count ops.RetC (x ∷ xs) h = absurd h
+op_labels count _ _ h = absurd h
 
 no_labels : (count : ℕ) (c : Code) → FitsCode count c → labels c ≡ []
 no_labels count (kinds.Plain i) h = op_labels count i.op i.imms h
@@ -100,19 +96,20 @@ there [] p l = absurd (omega arith)
 there (x ∷ ps) zero l = (x, refl)
 there (x ∷ ps) (suc p) l = there ps p (omega arith)
 
-op_on : (op : Op) → (op ≡ ops.RetC → ⊥) → op_goes_on op ≡ true
-op_on ops.Null h = refl
-op_on ops.True h = refl
-op_on ops.False h = refl
-op_on ops.Int h = refl
-op_on ops.PopC h = refl
-op_on ops.SetL h = refl
-op_on ops.CGetL h = refl
-op_on ops.RetC h = absurd (h refl)
+op_on : (count : ℕ) (op : Op) (is : List Imm) → FitsOperands count op is → (op ≡ ops.RetC → ⊥) → op_goes_on op ≡ true
+op_on count ops.Null is w h = refl
+op_on count ops.True is w h = refl
+op_on count ops.False is w h = refl
+op_on count ops.Int is w h = refl
+op_on count ops.PopC is w h = refl
+op_on count ops.SetL is w h = refl
+op_on count ops.CGetL is w h = refl
+op_on count ops.RetC is w h = absurd (h refl)
+op_on count _ is w h = absurd w
 
-on : (c : Code) → (IsReturn c → ⊥) → goes_on c ≡ true
-on (kinds.Plain i) h = op_on i.op h
-on (kinds.Member m) h = refl
+on : (count : ℕ) (c : Code) → FitsCode count c → (IsReturn c → ⊥) → goes_on c ≡ true
+on count (kinds.Plain i) w h = op_on count i.op i.imms w h
+on count (kinds.Member m) w h = refl
 
 not_on : (c : Code) → IsReturn c → goes_on c ≡ false
 not_on (kinds.Plain i) h = rw h refl
@@ -155,7 +152,7 @@ module _ (count : ℕ) (b : Body) (g : b.regions ≡ []) (w : FitClaimed count b
   pub given_next : (p : ℕ) (q : Position) → slice_get b.positions p ≡ Some q → suc p < length b.positions → given b (suc p) ≡ behind q.code (given b p)
   given_next p q e l =
       let h = edges_at p q e in
-      let o = on q.code (not_last count b.positions p q w e l) in
+      let o = on count q.code (claimed_at count b.positions p q w e).fits (not_last count b.positions p q w e l) in
       let k : edge_to (suc p) (edges b p) ≡ Some (Next (suc p)) = rw (h, o) (edge_here p) in
       let len = shapes_length b p in
       let m = given_by_last b 0 (shapes b p) (given b p) (suc p) p (Next (suc p)) (omega (arith, len))
@@ -183,33 +180,35 @@ cells_append [] gs h k = k
 cells_append (C ∷ fs) gs h k = cells_append fs gs h k
 cells_append (U ∷ fs) gs h k = absurd h
 
-op_pushes_cells : (op : Op) (is : List Imm) → AllCells (op_pushes op is) × (length (op_pushes op is) ≤ 1)
-op_pushes_cells ops.Null is = (tt, omega arith)
-op_pushes_cells ops.True is = (tt, omega arith)
-op_pushes_cells ops.False is = (tt, omega arith)
-op_pushes_cells ops.Int is = (tt, omega arith)
-op_pushes_cells ops.PopC is = (tt, omega arith)
-op_pushes_cells ops.SetL is = (tt, omega arith)
-op_pushes_cells ops.CGetL is = (tt, omega arith)
-op_pushes_cells ops.RetC is = (tt, omega arith)
+op_pushes_cells : (count : ℕ) (op : Op) (is : List Imm) → FitsOperands count op is → AllCells (op_pushes op is) × (length (op_pushes op is) ≤ 1)
+op_pushes_cells count ops.Null is w = (tt, omega arith)
+op_pushes_cells count ops.True is w = (tt, omega arith)
+op_pushes_cells count ops.False is w = (tt, omega arith)
+op_pushes_cells count ops.Int is w = (tt, omega arith)
+op_pushes_cells count ops.PopC is w = (tt, omega arith)
+op_pushes_cells count ops.SetL is w = (tt, omega arith)
+op_pushes_cells count ops.CGetL is w = (tt, omega arith)
+op_pushes_cells count ops.RetC is w = (tt, omega arith)
+op_pushes_cells count _ is w = absurd w
 
-pushes_cells : (c : Code) → AllCells (pushes c) × (length (pushes c) ≤ 1)
-pushes_cells (kinds.Plain i) = op_pushes_cells i.op i.imms
-pushes_cells (kinds.Member m) = (tt, omega arith)
+pushes_cells : (count : ℕ) (c : Code) → FitsCode count c → AllCells (pushes c) × (length (pushes c) ≤ 1)
+pushes_cells count (kinds.Plain i) w = op_pushes_cells count i.op i.imms w
+pushes_cells count (kinds.Member m) w = absurd w
 
-op_pops_cells : (op : Op) (is : List Imm) → AllCells (op_pops op is)
-op_pops_cells ops.Null is = tt
-op_pops_cells ops.True is = tt
-op_pops_cells ops.False is = tt
-op_pops_cells ops.Int is = tt
-op_pops_cells ops.PopC is = tt
-op_pops_cells ops.SetL is = tt
-op_pops_cells ops.CGetL is = tt
-op_pops_cells ops.RetC is = tt
+op_pops_cells : (count : ℕ) (op : Op) (is : List Imm) → FitsOperands count op is → AllCells (op_pops op is)
+op_pops_cells count ops.Null is w = tt
+op_pops_cells count ops.True is w = tt
+op_pops_cells count ops.False is w = tt
+op_pops_cells count ops.Int is w = tt
+op_pops_cells count ops.PopC is w = tt
+op_pops_cells count ops.SetL is w = tt
+op_pops_cells count ops.CGetL is w = tt
+op_pops_cells count ops.RetC is w = tt
+op_pops_cells count _ is w = absurd w
 
-pops_cells : (c : Code) → AllCells (pops c)
-pops_cells (kinds.Plain i) = op_pops_cells i.op i.imms
-pops_cells (kinds.Member m) = tt
+pops_cells : (count : ℕ) (c : Code) → FitsCode count c → AllCells (pops c)
+pops_cells count (kinds.Plain i) w = op_pops_cells count i.op i.imms w
+pops_cells count (kinds.Member m) w = absurd w
 
 agree_cells : (fs gs : List Flavour) → AllCells fs → AllCells gs → agree fs gs ≡ true
 agree_cells [] gs h k = refl
@@ -233,9 +232,9 @@ record IsLow (p : ℕ) (s : Shape) : Type 0 where
   pub cells : AllCells s.stack
   pub depth : length s.stack ≤ p
 
-low_behind : (c : Code) (p : ℕ) (s : Shape) → IsLow p s → IsLow (suc p) (behind c s)
-low_behind c p s h =
-    let x = pushes_cells c in
+low_behind : (count : ℕ) (c : Code) (p : ℕ) (s : Shape) → FitsCode count c → IsLow p s → IsLow (suc p) (behind c s)
+low_behind count c p s w h =
+    let x = pushes_cells count c w in
     let a = length-append (pushes c) (drop (length (pops c)) s.stack) in
     let d = length-drop (length (pops c)) s.stack in
     record {
@@ -280,7 +279,7 @@ module _ (b : Body) (form : IsSecondBody b) where
   low zero l = record { cells = tt; depth = omega arith }
   low (suc p) l =
       let x = there b.positions p (omega arith) in
-      subst (λ (s : Shape). IsLow (suc p) s) (sym (given_next _ b form.regions form.positions p x.0 x.1 l)) (low_behind x.0.code p (given b p) (low p (omega arith)))
+      subst (λ (s : Shape). IsLow (suc p) s) (sym (given_next _ b form.regions form.positions p x.0 x.1 l)) (low_behind _ x.0.code p (given b p) (claimed_at _ b.positions p x.0 form.positions x.1).fits (low p (omega arith)))
 
   all_low : (n : ℕ) → n ≤ length b.positions → deepest (shapes b n) ≤ n
   all_low zero l = omega arith
@@ -330,7 +329,7 @@ module _ (b : Body) (form : IsSecondBody b) where
       → AllPass ((WrongFlavour, agree (pops_of (code_at b p)) (given b p).stack) ∷ (all_edge_checks b p (given b p) (edges b p) ++ last_checks b p))
   rest_pass p q e l =
       let a : agree (pops_of (code_at b p)) (given b p).stack ≡ true =
-      rw (code_is b p q e) (agree_cells (pops q.code) (given b p).stack (pops_cells q.code) (low p l).cells) in (
+      rw (code_is b p q e) (agree_cells (pops q.code) (given b p).stack (pops_cells _ q.code (claimed_at _ b.positions p q form.positions e).fits) (low p l).cells) in (
         a,
         pass_append (all_edge_checks b p (given b p) (edges b p)) (last_checks b p)
             (subst (λ (es : List Edge). AllPass (all_edge_checks b p (given b p) es)) (sym (edges_at _ b form.regions form.positions p q e))

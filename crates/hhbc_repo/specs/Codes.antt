@@ -1,7 +1,10 @@
 -- What the table of instructions says of each code.
-use Rattle.std.specs.Prelude.{ℕ, ℤ, pos, Bool, true, false, List, [], ◌∷◌, map, flat_map}
+use Rattle.std.specs.Prelude.{ℕ, ℤ, pos, Bool, true, List, [], ◌∷◌, ◌++◌, map, flat_map, replicate}
 use Rattle.hhbc_ops.specs.declared.op.Op.{Op}
 use Rattle.hhbc_ops.specs.declared.op.Op.TheVariants as ops
+use Rattle.hhbc_ops.specs.declared.words.Flavour.{Flavour}
+use Rattle.hhbc_ops.specs.declared.words.Flavour.TheVariants.{C, U}
+use Rattle.hhbc_ops.specs.Ops.{op_throws, op_goes_on}
 use Rattle.hhbc_repo.specs.declared.code.Code.{Code}
 use Rattle.hhbc_repo.specs.declared.code.Code.TheVariants as kinds
 use Rattle.hhbc_repo.specs.declared.code.Arm.{Arm}
@@ -18,65 +21,126 @@ abbrev pub int_of : List Imm → ℤ
 int_of (imms.Int i ∷ _) = i
 int_of _ = pos 0
 
--- what a place of the stack is for: a cell, or the Uninit that a call wants
-pub data Flavour : Type 0 where
-  C : Flavour
-  U : Flavour
+-- the operand that is a count
+abbrev pub count_of : List Imm → ℕ
+count_of (imms.Count n ∷ _) = n
+count_of _ = 0
 
--- the slots that an instruction takes away, the topmost first
+-- the slots that an instruction takes away, and those that it puts there, the topmost first
+pub record Stack : Type 0 where
+  pub pops : List Flavour
+  pub pushes : List Flavour
+
+abbrev pub some_cells : ℕ → List Flavour
+some_cells n = replicate n C
+
+abbrev pub untouched : Stack
+untouched = record { pops = []; pushes = [] }
+
+abbrev pub gives : List Flavour → Stack
+gives pushes = record { pops = []; pushes = pushes }
+
+abbrev pub takes : List Flavour → Stack
+takes pops = record { pops = pops; pushes = [] }
+
+abbrev pub turns : List Flavour → List Flavour → Stack
+turns pops pushes = record { pops = pops; pushes = pushes }
+
+abbrev pub to_cell : List Flavour → Stack
+to_cell pops = turns pops (C ∷ [])
+
+abbrev pub op_stack : Op → List Imm → Stack
+op_stack ops.Nop is = untouched
+op_stack ops.Null is = gives (C ∷ [])
+op_stack ops.True is = gives (C ∷ [])
+op_stack ops.False is = gives (C ∷ [])
+op_stack ops.Int is = gives (C ∷ [])
+op_stack ops.String is = gives (C ∷ [])
+op_stack ops.NullUninit is = gives (U ∷ [])
+op_stack ops.PopC is = takes (C ∷ [])
+op_stack ops.PopU is = takes (U ∷ [])
+op_stack ops.Dup is = turns (C ∷ []) (C ∷ C ∷ [])
+op_stack ops.PopL is = takes (C ∷ [])
+op_stack ops.SetL is = to_cell (C ∷ [])
+op_stack ops.CGetL is = gives (C ∷ [])
+op_stack ops.CGetQuietL is = gives (C ∷ [])
+op_stack ops.CGetL2 is = turns (C ∷ []) (C ∷ C ∷ [])
+op_stack ops.PushL is = gives (C ∷ [])
+op_stack ops.UnsetL is = untouched
+op_stack ops.SetOpL is = to_cell (C ∷ [])
+op_stack ops.IncDecL is = gives (C ∷ [])
+op_stack ops.Concat is = to_cell (C ∷ C ∷ [])
+op_stack ops.Add is = to_cell (C ∷ C ∷ [])
+op_stack ops.Sub is = to_cell (C ∷ C ∷ [])
+op_stack ops.Mul is = to_cell (C ∷ C ∷ [])
+op_stack ops.Mod is = to_cell (C ∷ C ∷ [])
+op_stack ops.BitAnd is = to_cell (C ∷ C ∷ [])
+op_stack ops.BitOr is = to_cell (C ∷ C ∷ [])
+op_stack ops.BitXor is = to_cell (C ∷ C ∷ [])
+op_stack ops.Shl is = to_cell (C ∷ C ∷ [])
+op_stack ops.Shr is = to_cell (C ∷ C ∷ [])
+op_stack ops.Same is = to_cell (C ∷ C ∷ [])
+op_stack ops.NSame is = to_cell (C ∷ C ∷ [])
+op_stack ops.Lt is = to_cell (C ∷ C ∷ [])
+op_stack ops.Lte is = to_cell (C ∷ C ∷ [])
+op_stack ops.Gt is = to_cell (C ∷ C ∷ [])
+op_stack ops.Gte is = to_cell (C ∷ C ∷ [])
+op_stack ops.Cmp is = to_cell (C ∷ C ∷ [])
+op_stack ops.BitNot is = to_cell (C ∷ [])
+op_stack ops.CastInt is = to_cell (C ∷ [])
+op_stack ops.CastString is = to_cell (C ∷ [])
+op_stack ops.Not is = to_cell (C ∷ [])
+op_stack ops.CastBool is = to_cell (C ∷ [])
+op_stack ops.IsTypeC is = to_cell (C ∷ [])
+op_stack ops.IsTypeL is = gives (C ∷ [])
+op_stack ops.InstanceOfD is = to_cell (C ∷ [])
+op_stack ops.NewVec is = to_cell (some_cells (count_of is))
+op_stack ops.NewKeysetArray is = to_cell (some_cells (count_of is))
+op_stack ops.NewDictArray is = gives (C ∷ [])
+op_stack ops.AddElemC is = to_cell (C ∷ C ∷ C ∷ [])
+op_stack ops.AddNewElemC is = to_cell (C ∷ C ∷ [])
+op_stack ops.Jmp is = untouched
+op_stack ops.JmpZ is = takes (C ∷ [])
+op_stack ops.JmpNZ is = takes (C ∷ [])
+op_stack ops.Switch is = takes (C ∷ [])
+op_stack ops.SSwitch is = takes (C ∷ [])
+op_stack ops.RetC is = takes (C ∷ [])
+op_stack ops.Throw is = takes (C ∷ [])
+op_stack ops.Fatal is = takes (C ∷ [])
+op_stack ops.ClsCnsD is = gives (C ∷ [])
+op_stack ops.FCallFuncD is = to_cell (some_cells (count_of is) ++ U ∷ U ∷ [])
+op_stack ops.FCallObjMethodD is = to_cell (some_cells (count_of is) ++ U ∷ C ∷ [])
+op_stack ops.FCallClsMethodD is = to_cell (some_cells (count_of is) ++ U ∷ U ∷ [])
+op_stack ops.NewObjD is = gives (C ∷ [])
+op_stack ops.FCallCtor is = to_cell (some_cells (count_of is) ++ U ∷ C ∷ [])
+op_stack ops.LockObj is = to_cell (C ∷ [])
+op_stack ops.This is = gives (C ∷ [])
+op_stack ops.BareThis is = gives (C ∷ [])
+op_stack ops.CheckThis is = untouched
+op_stack ops.IterInit is = takes (C ∷ [])
+op_stack ops.IterNext is = untouched
+op_stack ops.IterFree is = untouched
+op_stack ops.VerifyParamType is = untouched
+op_stack ops.VerifyRetTypeC is = to_cell (C ∷ [])
+op_stack ops.Print is = to_cell (C ∷ [])
+
 abbrev pub op_pops : Op → List Imm → List Flavour
-op_pops ops.Null imms = []
-op_pops ops.True imms = []
-op_pops ops.False imms = []
-op_pops ops.Int imms = []
-op_pops ops.PopC imms = C ∷ []
-op_pops ops.SetL imms = C ∷ []
-op_pops ops.CGetL imms = []
-op_pops ops.RetC imms = C ∷ []
+op_pops op is = (op_stack op is).pops
 
--- the slots that it puts there, the topmost first
 abbrev pub op_pushes : Op → List Imm → List Flavour
-op_pushes ops.Null imms = C ∷ []
-op_pushes ops.True imms = C ∷ []
-op_pushes ops.False imms = C ∷ []
-op_pushes ops.Int imms = C ∷ []
-op_pushes ops.PopC imms = []
-op_pushes ops.SetL imms = C ∷ []
-op_pushes ops.CGetL imms = C ∷ []
-op_pushes ops.RetC imms = []
-
--- it may raise an exception
-abbrev pub op_throws : Op → Bool
-op_throws ops.Null = false
-op_throws ops.True = false
-op_throws ops.False = false
-op_throws ops.Int = false
-op_throws ops.PopC = false
-op_throws ops.SetL = false
-op_throws ops.CGetL = true
-op_throws ops.RetC = false
-
--- the position behind it may come next
-abbrev pub op_goes_on : Op → Bool
-op_goes_on ops.Null = true
-op_goes_on ops.True = true
-op_goes_on ops.False = true
-op_goes_on ops.Int = true
-op_goes_on ops.PopC = true
-op_goes_on ops.SetL = true
-op_goes_on ops.CGetL = true
-op_goes_on ops.RetC = false
+op_pushes op is = (op_stack op is).pushes
 
 -- the locals that it reads or tests, in order
 abbrev pub op_reads : Op → List Imm → List ℕ
-op_reads ops.Null imms = []
-op_reads ops.True imms = []
-op_reads ops.False imms = []
-op_reads ops.Int imms = []
-op_reads ops.PopC imms = []
-op_reads ops.SetL imms = []
-op_reads ops.CGetL imms = local_of imms ∷ []
-op_reads ops.RetC imms = []
+op_reads ops.CGetL is = local_of is ∷ []
+op_reads ops.CGetQuietL is = local_of is ∷ []
+op_reads ops.CGetL2 is = local_of is ∷ []
+op_reads ops.PushL is = local_of is ∷ []
+op_reads ops.SetOpL is = local_of is ∷ []
+op_reads ops.IncDecL is = local_of is ∷ []
+op_reads ops.IsTypeL is = local_of is ∷ []
+op_reads ops.VerifyParamType is = local_of is ∷ []
+op_reads _ is = []
 
 -- a member sequence may throw and goes on; the slots and locals of its parts come with its first instruction
 abbrev pub pops : Code → List Flavour

@@ -85,7 +85,11 @@ read_slot (Some (slots.Cell c)) name w go = go c
 abbrev pub with_local : Body → Frame → World → ℕ → (Cell → Turn) → Turn
 with_local b f w l go = read_slot (slice_get f.locals l) (name_or_none (slice_get b.locals l)) w go
 
--- what an instruction does
+-- what is not defined here stops the machine
+abbrev pub undefined_code : World → Turn
+undefined_code w = Ends (Sticks Underflow) w
+
+-- what an instruction does; the further ones come with the forms that have them
 abbrev pub perform : Op → List Imm → Body → Frame → World → Turn
 perform ops.Null imms b f w = Goes (push f cells.Null) w
 perform ops.True imms b f w = Goes (push f (cells.Bool true)) w
@@ -95,12 +99,13 @@ perform ops.PopC imms b f w = with_cell f.stack w (λ c rest. Goes (ahead f rest
 perform ops.SetL imms b f w = with_cell f.stack w (λ c rest. Goes (ahead (set_local f (local_of imms) (slots.Cell c)) f.stack) w)
 perform ops.CGetL imms b f w = with_local b f w (local_of imms) (λ c. Goes (push f c) w)
 perform ops.RetC imms b f w = with_cell f.stack w (λ c rest. Returns c w)
+perform _ imms b f w = undefined_code w
 
 -- a position that isn't there counts as an underflow; member sequences come with their first instruction
 abbrev pub perform_code : Option Code → Body → Frame → World → Turn
 perform_code None b f w = Ends (Sticks Underflow) w
 perform_code (Some (kinds.Plain i)) b f w = perform i.op i.imms b f w
-perform_code (Some (kinds.Member m)) b f w = Ends (Sticks Underflow) w
+perform_code (Some (kinds.Member m)) b f w = undefined_code w
 
 abbrev pub turn_in : Option Body → Frame → World → Turn
 turn_in None f w = Ends (Sticks Underflow) w

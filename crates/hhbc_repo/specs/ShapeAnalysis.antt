@@ -9,7 +9,9 @@ use Rattle.hhbc_repo.specs.declared.body.Assert.{Assert}
 use Rattle.hhbc_repo.specs.declared.body.Assert.TheVariants as asserts
 use Rattle.hhbc_repo.specs.Linked.{Linked}
 use Rattle.hhbc_repo.specs.Bodies.{body_at, code_at, asserts_at}
-use Rattle.hhbc_repo.specs.Codes.{Flavour, C, U, pops}
+use Rattle.hhbc_ops.specs.declared.words.Flavour.{Flavour}
+use Rattle.hhbc_ops.specs.declared.words.Flavour.TheVariants.{C, U}
+use Rattle.hhbc_repo.specs.Codes.{pops}
 use Rattle.hhbc_repo.specs.Edges.{Edge, target, edges}
 use Rattle.hhbc_repo.specs.Form.{FitsCode}
 use Rattle.hhbc_repo.specs.Machine.{Frame, turn}

@@ -1,5 +1,7 @@
 -- What the stack looks like at each position, and which repositories keep to it.
 use Rattle.std.specs.Prelude.{◌≡◌, ◌≢◌, ◌⊎◌, ◌<◌, ◌*◌, ◌+◌, ℕ, zero, suc, max, Bool, true, false, ◌&&◌, not, nat_le, nat_lt, ◌==◌, List, [], ◌∷◌, ◌++◌, length, drop, replicate, Option, Some, None, if◌then◌else◌}
+use Rattle.hhbc_ops.specs.declared.words.Flavour.{Flavour}
+use Rattle.hhbc_ops.specs.declared.words.Flavour.TheVariants.{C, U}
 use Rattle.hhbc_repo.specs.declared.code.Code.{Code}
 use Rattle.hhbc_repo.specs.declared.body.Assert.{Assert}
 use Rattle.hhbc_repo.specs.declared.body.Assert.TheVariants as asserts
@@ -7,7 +9,7 @@ use Rattle.hhbc_repo.specs.declared.body.Body.{Body}
 use Rattle.hhbc_repo.specs.declared.body.Region.{Region}
 use Rattle.hhbc_repo.specs.Linked.{Linked}
 use Rattle.hhbc_repo.specs.Bodies.{body_at, code_at, asserts_at}
-use Rattle.hhbc_repo.specs.Codes.{Flavour, C, U, pops, pushes}
+use Rattle.hhbc_repo.specs.Codes.{pops, pushes}
 use Rattle.hhbc_repo.specs.Edges.{Edge, Next, To, Handler, target, edges}
 
 -- the flavours of the stack, the topmost first, and of each iterator whether it is live

@@ -4,6 +4,7 @@
 mod body;
 mod code;
 mod laws;
+mod link_fault;
 mod parts;
 mod repo;
 mod soundness;
@@ -14,6 +15,7 @@ pub use laws::{
     bare_is_first_form, first_form_never_sticks, local_codes_never_stick, runs_as_bare,
     second_form_never_sticks, types_where_asserted_walks, types_where_it_walks,
 };
+pub use link_fault::{LinkFault, LinkKind};
 pub use parts::{
     ArmParts, AssertParts, BaseParts, BodyParts, ClassParts, CodeParts, FinalParts, ImmParts,
     InstrParts, ItemParts, MemberKeyParts, MemberSeqParts, PositionParts, PropertyParts, TypeParts,

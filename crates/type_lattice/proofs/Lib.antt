@@ -1,5 +1,16 @@
 pub mod Antisymmetry
+pub mod Chains
+pub mod Claimed
+pub mod Cycles
+pub mod Descent
+pub mod JoinLaws
+pub mod JoinProper
+pub mod KeepLaws
+pub mod Kept
+pub mod LiteralLaws
+pub mod Made
 pub mod Members
 pub mod NeverLaws
 pub mod OrderLaws
+pub mod RankLaws
 pub mod WholeLaws

@@ -39,7 +39,7 @@ each-le : {A : Type 0} (p q : A → Bool) (xs : List A) → ((x : A) → p x ≡
 each-le p q [] h m = refl
 each-le p q (x ∷ xs) h m = let e = both_true _ _ m in rw (h x e.0) (each-le p q xs h e.1)
 
-each : {A : Type 0} (p : A → Bool) (xs : List A) → ((x : A) → p x ≡ true) → list_all p xs ≡ true
+pub each : {A : Type 0} (p : A → Bool) (xs : List A) → ((x : A) → p x ≡ true) → list_all p xs ≡ true
 each p [] h = refl
 each p (x ∷ xs) h = rw (h x) (each p xs h)
 
@@ -70,7 +70,7 @@ module _ (tree : Tree) (higher : Transitive tree) where
   is_below-below None c e h m = absurd (cc)
   is_below-below (Some d) c e h m = higher d c e m h
 
-  obj_in-le : (d : Option ℕ) (a b : ObjPart) → ObjLe tree a b → obj_in tree d a ≡ true → obj_in tree d b ≡ true
+  pub obj_in-le : (d : Option ℕ) (a b : ObjPart) → ObjLe tree a b → obj_in tree d a ≡ true → obj_in tree d b ≡ true
   obj_in-le d objs.No b h m = absurd (cc)
   obj_in-le d (objs.Exact c) objs.No h m = absurd h
   obj_in-le d (objs.Exact c) (objs.Exact e) h m = rw (← h) m
@@ -195,7 +195,7 @@ cell_in-initialised tree heap (cells.Dict entries) t h = h
 cell_in-initialised tree heap (cells.Keyset elements) t h = h
 cell_in-initialised tree heap (cells.Obj n) t h = h
 
-leaf_has : (tree : Tree) (heap : Heap) (c : Cell) → in_leaf tree heap cell_leaf c ≡ true
+pub leaf_has : (tree : Tree) (heap : Heap) (c : Cell) → in_leaf tree heap cell_leaf c ≡ true
 leaf_has tree heap cells.Null = refl
 leaf_has tree heap (cells.Bool true) = refl
 leaf_has tree heap (cells.Bool false) = refl
@@ -206,7 +206,7 @@ leaf_has tree heap (cells.Dict entries) = refl
 leaf_has tree heap (cells.Keyset elements) = refl
 leaf_has tree heap (cells.Obj n) = refl
 
-key_has : (k : Key) → key_in key_leaf k ≡ true
+pub key_has : (k : Key) → key_in key_leaf k ≡ true
 key_has (keys.Int i) = refl
 key_has (keys.Str s) = refl
 

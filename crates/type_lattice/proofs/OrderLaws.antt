@@ -35,7 +35,21 @@ FlagLe-trans false b c h k = tt
 FlagLe-trans true true c h k = k
 FlagLe-trans true false c h k = absurd (cc)
 
-IntLe-refl : (a : IntPart) → IntLe a a
+pub FlagLe-top : (a : Bool) → FlagLe a true
+FlagLe-top true = refl
+FlagLe-top false = tt
+
+pub IntLe-top : (a : IntPart) → IntLe a ints.Any
+IntLe-top ints.No = tt
+IntLe-top (ints.One i) = tt
+IntLe-top ints.Any = tt
+
+pub StrLe-top : (a : StrPart) → StrLe a strs.Any
+StrLe-top strs.No = tt
+StrLe-top (strs.One s) = tt
+StrLe-top strs.Any = tt
+
+pub IntLe-refl : (a : IntPart) → IntLe a a
 IntLe-refl ints.No = tt
 IntLe-refl (ints.One i) = refl
 IntLe-refl ints.Any = tt
@@ -53,7 +67,7 @@ IntLe-trans ints.Any ints.No c h k = absurd h
 IntLe-trans ints.Any (ints.One j) c h k = absurd h
 IntLe-trans ints.Any ints.Any c h k = k
 
-StrLe-refl : (a : StrPart) → StrLe a a
+pub StrLe-refl : (a : StrPart) → StrLe a a
 StrLe-refl strs.No = tt
 StrLe-refl (strs.One s) = refl
 StrLe-refl strs.Any = tt
@@ -72,7 +86,13 @@ StrLe-trans strs.Any (strs.One t) c h k = absurd h
 StrLe-trans strs.Any strs.Any c h k = k
 
 module _ (tree : Tree) where
-  ObjLe-refl : (a : ObjPart) → ObjLe tree a a
+  pub ObjLe-top : (a : ObjPart) → ObjLe tree a objs.Any
+  ObjLe-top objs.No = tt
+  ObjLe-top (objs.Exact c) = tt
+  ObjLe-top (objs.Sub c) = tt
+  ObjLe-top objs.Any = tt
+
+  pub ObjLe-refl : (a : ObjPart) → ObjLe tree a a
   ObjLe-refl objs.No = tt
   ObjLe-refl (objs.Exact c) = refl
   ObjLe-refl (objs.Sub c) = below-refl tree c

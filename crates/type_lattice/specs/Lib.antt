@@ -1,8 +1,13 @@
 pub mod Classes
+pub mod Join
+pub mod Keep
+pub mod Laws
 pub mod Member
 pub mod Never
 pub mod Order
 pub mod Proper
+pub mod Rank
 pub mod TypeText
 pub mod Types
+pub mod Walks
 pub mod Whole

@@ -1,6 +1,8 @@
 -- Types that a program can state.
 use Rattle.std.specs.Prelude.{◌≡◌, ◌<◌, ◌≤◌, ◌-◌, false, Option, Some, None, length, drop, replicate, All, FitsSigned}
 use Rattle.std.proofs.Common.{w64}
+use Rattle.hack_values.specs.declared.cell.Cell.{Cell}
+use Rattle.hack_values.specs.declared.cell.Cell.TheVariants as cells
 use Rattle.type_lattice.specs.declared.types.IntPart.{IntPart}
 use Rattle.type_lattice.specs.declared.types.IntPart.TheVariants as ints
 use Rattle.type_lattice.specs.declared.types.StrPart.{StrPart}
@@ -74,6 +76,17 @@ pub record IsProper (tree : Tree) (t : HType) : Type 0 where
   pub vec : ProperVec tree t.vec
   pub dict : ProperDict tree t.dict
   pub keyset : ProperKeyset t.keyset
+
+-- a cell whose int is of 64 bits and whose string is of bytes
+abbrev pub ProperScalar : Cell → Type 0
+ProperScalar cells.Null = Unit {0}
+ProperScalar (cells.Bool b) = Unit {0}
+ProperScalar (cells.Int i) = FitsSigned w64 i
+ProperScalar (cells.Str s) = All (λ b. b < 256) s
+ProperScalar (cells.Vec items) = Unit {0}
+ProperScalar (cells.Dict entries) = Unit {0}
+ProperScalar (cells.Keyset elements) = Unit {0}
+ProperScalar (cells.Obj n) = Unit {0}
 
 -- the join of the types that are among these: above each, and below every proper type above each
 pub record IsJoin (tree : Tree) (Among : HType → Type 0) (t : HType) : Type 0 where

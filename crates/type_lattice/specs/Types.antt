@@ -1,5 +1,5 @@
 -- Single types: the one without members, that of all cells, and those of literals.
-use Rattle.std.specs.Prelude.{ℕ, true, false, Some, None, List, ◌++◌, ◌-◌, take, length, replicate, nat_le, if◌then◌else◌}
+use Rattle.std.specs.Prelude.{◌≡◌, ℕ, true, false, Some, None, List, [], ◌++◌, ◌-◌, take, length, replicate, nat_le, if◌then◌else◌}
 use Rattle.type_lattice.specs.declared.types.IntPart.TheVariants as ints
 use Rattle.type_lattice.specs.declared.types.StrPart.{StrPart}
 use Rattle.type_lattice.specs.declared.types.StrPart.TheVariants as strs
@@ -110,13 +110,13 @@ literal (cells.Dict entries) = record never { dict = Some (never_leaf, never_lea
 literal (cells.Keyset elements) = record never { keyset = Some never_leaf }
 literal (cells.Obj n) = record never { obj = objs.Any }
 
--- null, a bool or an int
-abbrev pub IsPlain : Cell → Type 0
-IsPlain cells.Null = Unit {0}
-IsPlain (cells.Bool b) = Unit {0}
-IsPlain (cells.Int i) = Unit {0}
-IsPlain (cells.Str s) = ⊥
-IsPlain (cells.Vec items) = ⊥
-IsPlain (cells.Dict entries) = ⊥
-IsPlain (cells.Keyset elements) = ⊥
-IsPlain (cells.Obj n) = ⊥
+-- a scalar or an empty container
+abbrev pub IsLiteral : Cell → Type 0
+IsLiteral cells.Null = Unit {0}
+IsLiteral (cells.Bool b) = Unit {0}
+IsLiteral (cells.Int i) = Unit {0}
+IsLiteral (cells.Str s) = Unit {0}
+IsLiteral (cells.Vec items) = items ≡ []
+IsLiteral (cells.Dict entries) = entries ≡ []
+IsLiteral (cells.Keyset elements) = elements ≡ []
+IsLiteral (cells.Obj n) = ⊥

@@ -1,12 +1,14 @@
-ghost use Rattle.std.specs.Prelude.{◌≡◌, ◌↔◌, [], IsTrue};
+//! The order of types.
+
+ghost use Rattle.std.specs.Prelude.{◌↔◌, IsTrue};
 ghost use Rattle.type_lattice.specs.Order.{Le, LeafLe, PartLe, EntryLe, IntLe, StrLe, ObjLe, FlagLe};
 
+use crate::class_tree::ClassTree;
 use crate::types::{HType, IntPart, Leaf, ObjPart, StrPart};
 
-/// Whether every slot of the one type is of the other too. Classes are compared as if none
-/// descended from another; the tree of classes comes later.
-pub fn le(a: &HType, b: &HType) -> bool
-    ensures { IsTrue result ↔ Le [] a.now b.now }
+/// Whether every slot of the one type is of the other too, part by part.
+pub fn le(a: &HType, b: &HType, tree: &ClassTree) -> bool
+    ensures { IsTrue result ↔ Le tree.now a.now b.now }
 {
     flag_le(a.uninit, b.uninit)
         && flag_le(a.null, b.null)
@@ -14,43 +16,43 @@ pub fn le(a: &HType, b: &HType) -> bool
         && flag_le(a.yes, b.yes)
         && int_le(a.int, b.int)
         && str_le(a.str, b.str)
-        && obj_le(a.obj, b.obj)
-        && part_le(&a.vec, &b.vec)
-        && entry_le(&a.dict, &b.dict)
-        && part_le(&a.keyset, &b.keyset)
+        && obj_le(a.obj, b.obj, tree)
+        && part_le(&a.vec, &b.vec, tree)
+        && entry_le(&a.dict, &b.dict, tree)
+        && part_le(&a.keyset, &b.keyset, tree)
 }
 
-fn leaf_le(a: &Leaf, b: &Leaf) -> bool
-    ensures { IsTrue result ↔ LeafLe [] a.now b.now }
+fn leaf_le(a: &Leaf, b: &Leaf, tree: &ClassTree) -> bool
+    ensures { IsTrue result ↔ LeafLe tree.now a.now b.now }
 {
     flag_le(a.null, b.null)
         && flag_le(a.no, b.no)
         && flag_le(a.yes, b.yes)
         && int_le(a.int, b.int)
         && str_le(a.str, b.str)
-        && obj_le(a.obj, b.obj)
+        && obj_le(a.obj, b.obj, tree)
         && flag_le(a.vec, b.vec)
         && flag_le(a.dict, b.dict)
         && flag_le(a.keyset, b.keyset)
 }
 
-fn part_le(a: &Option<Leaf>, b: &Option<Leaf>) -> bool
-    ensures { IsTrue result ↔ PartLe (LeafLe []) a.now b.now }
+fn part_le(a: &Option<Leaf>, b: &Option<Leaf>, tree: &ClassTree) -> bool
+    ensures { IsTrue result ↔ PartLe (LeafLe tree.now) a.now b.now }
 {
     match (a, b) {
         (None, _) => true,
-        (Some(a), Some(b)) => leaf_le(a, b),
+        (Some(a), Some(b)) => leaf_le(a, b, tree),
         _ => false,
     }
 }
 
-fn entry_le(a: &Option<(Leaf, Leaf)>, b: &Option<(Leaf, Leaf)>) -> bool
-    ensures { IsTrue result ↔ PartLe (EntryLe []) a.now b.now }
+fn entry_le(a: &Option<(Leaf, Leaf)>, b: &Option<(Leaf, Leaf)>, tree: &ClassTree) -> bool
+    ensures { IsTrue result ↔ PartLe (EntryLe tree.now) a.now b.now }
 {
     match (a, b) {
         (None, _) => true,
         (Some((key, value)), Some((upper_key, upper_value))) => {
-            leaf_le(key, upper_key) && leaf_le(value, upper_value)
+            leaf_le(key, upper_key, tree) && leaf_le(value, upper_value, tree)
         }
         _ => false,
     }
@@ -84,13 +86,14 @@ fn str_le(a: StrPart, b: StrPart) -> bool
     }
 }
 
-fn obj_le(a: ObjPart, b: ObjPart) -> bool
-    ensures { IsTrue result ↔ ObjLe [] a b }
+fn obj_le(a: ObjPart, b: ObjPart, tree: &ClassTree) -> bool
+    ensures { IsTrue result ↔ ObjLe tree.now a b }
 {
     match (a, b) {
         (ObjPart::No, _) => true,
-        (ObjPart::Exact(c), ObjPart::Exact(d) | ObjPart::Sub(d)) => c == d,
-        (ObjPart::Sub(c), ObjPart::Sub(d)) => c == d,
+        (ObjPart::Exact(c), ObjPart::Exact(d)) => c == d,
+        (ObjPart::Exact(c), ObjPart::Sub(d)) => tree.below(c, d),
+        (ObjPart::Sub(c), ObjPart::Sub(d)) => tree.below(c, d),
         (_, ObjPart::Any) => true,
         _ => false,
     }

@@ -3,7 +3,6 @@
 ghost use Rattle.std.specs.Prelude.{◌≡◌, ◌++◌, [], ◌∷◌, ◌<◌, ◌&&◌, IfOk, OnOk, codes, length, if◌then◌else◌};
 ghost use Rattle.std.specs.List.{flat_map};
 ghost use Rattle.std.specs.Fmt.{signed_decimal};
-ghost use Rattle.type_lattice.specs.Types.{short_bytes};
 ghost use Rattle.type_lattice.specs.TypeText as text;
 ghost use Rattle.type_lattice.specs.Whole as whole;
 
@@ -91,18 +90,6 @@ fn put_int(alloc: Global, atoms: &mut Seq<Text>, part: IntPart) -> Result<(), No
     }
 }
 
-/// The string of a short one.
-fn bytes_of(short: &Short) -> &[u8]
-    ensures { result.now ≡ short_bytes short.now }
-{
-    let len = short.len as usize;
-    if len < 32 {
-        &short.bytes[..len]
-    } else {
-        &short.bytes
-    }
-}
-
 fn put_str(alloc: Global, atoms: &mut Seq<Text>, part: &StrPart) -> Result<(), NoMemory>
     ensures { OnOk result (atoms.new ≡ atoms.old ++ text.str_atoms part.now) }
 {
@@ -110,7 +97,7 @@ fn put_str(alloc: Global, atoms: &mut Seq<Text>, part: &StrPart) -> Result<(), N
         StrPart::No => Ok(()),
         StrPart::One(short) => {
             let mut atom = Text::from_bytes(alloc, b"Str=")?;
-            push_quoted(&mut atom, bytes_of(short))?;
+            push_quoted(&mut atom, short.as_bytes())?;
             atoms.push(atom)
         }
         StrPart::Any => put(alloc, atoms, true, b"Str"),

@@ -1,3 +1,6 @@
+ghost use Rattle.std.specs.Prelude.{◌≡◌};
+ghost use Rattle.type_lattice.specs.Types.{short_bytes};
+
 /// Which ints a type has.
 #[derive(Clone, Copy, Debug, PartialEq, Eq)]
 pub enum IntPart {
@@ -11,6 +14,20 @@ pub enum IntPart {
 pub struct Short {
     pub len: u8,
     pub bytes: [u8; 32],
+}
+
+impl Short {
+    /// The bytes of the string.
+    pub fn as_bytes(&self) -> &[u8]
+        ensures { result.now ≡ short_bytes self.now }
+    {
+        let len = self.len as usize;
+        if len < 32 {
+            &self.bytes[..len]
+        } else {
+            &self.bytes
+        }
+    }
 }
 
 /// Which strings a type has.
@@ -85,6 +102,19 @@ impl Leaf {
         dict: false,
         keyset: false,
     };
+
+    /// What holds nothing.
+    pub const NEVER: Leaf = Leaf {
+        null: false,
+        no: false,
+        yes: false,
+        int: IntPart::No,
+        str: StrPart::No,
+        obj: ObjPart::No,
+        vec: false,
+        dict: false,
+        keyset: false,
+    };
 }
 
 impl HType {
@@ -100,6 +130,12 @@ impl HType {
         vec: None,
         dict: None,
         keyset: None,
+    };
+
+    /// The type of what isn't there yet.
+    pub const UNINIT: HType = HType {
+        uninit: true,
+        ..HType::NEVER
     };
 
     /// The type of all cells.

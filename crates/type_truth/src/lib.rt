@@ -1,0 +1,9 @@
+//! Whether a value is of a type.
+#![tactic(auto)]
+
+mod member;
+
+pub use member::is_member;
+
+#[cfg(test)]
+mod tests;
