@@ -10,3 +10,4 @@ pub mod Stripped
 pub mod TestedRuns
 pub mod Walking
 mod LinkExamples
+mod SampleExamples
