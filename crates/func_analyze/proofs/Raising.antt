@@ -4,13 +4,13 @@ use Rattle.hack_values.specs.declared.cell.Cell.{Cell}
 use Rattle.hack_values.specs.declared.cell.Cell.TheVariants as cells
 use Rattle.hack_values.specs.declared.cell.Slot.{Slot}
 use Rattle.hack_values.specs.declared.cell.Slot.TheVariants as slots
+use Rattle.hhbc_ops.specs.Ops.{op_throws}
 use Rattle.hhbc_ops.specs.declared.op.Op.{Op}
 use Rattle.hhbc_ops.specs.declared.op.Op.TheVariants as ops
 use Rattle.hhbc_repo.specs.declared.code.Code.{Code}
 use Rattle.hhbc_repo.specs.declared.code.Code.TheVariants as kinds
 use Rattle.hhbc_repo.specs.declared.code.Imm.{Imm}
 use Rattle.hhbc_repo.specs.declared.body.Body.{Body}
-use Rattle.hhbc_ops.specs.Ops.{op_throws}
 use Rattle.hhbc_repo.specs.Codes.{local_of, throws}
 use Rattle.hhbc_repo.specs.Machine.{World, Frame, Turn, Goes, Calls, Returns, Raises, Ends, exception, undefined_variable, with_cell, read_slot, name_or_none, perform, perform_code}
 

@@ -7,7 +7,7 @@ pub mod ShapeTables
 pub mod Starting
 pub mod StaysTrue
 pub mod Stripped
+mod LinkExamples
 pub mod TestedRuns
 pub mod Walking
-mod LinkExamples
 mod SampleExamples

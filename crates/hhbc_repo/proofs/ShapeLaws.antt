@@ -12,9 +12,9 @@ use Rattle.hhbc_repo.specs.declared.code.Imm.TheVariants as imms
 use Rattle.hhbc_repo.specs.declared.body.Body.{Body}
 use Rattle.hhbc_repo.specs.Linked.{Linked}
 use Rattle.hhbc_repo.specs.Bodies.{bodies, body_at, code_at}
+use Rattle.hhbc_ops.specs.Ops.{op_goes_on, op_throws}
 use Rattle.hhbc_ops.specs.declared.words.Flavour.{Flavour}
 use Rattle.hhbc_ops.specs.declared.words.Flavour.TheVariants.{C, U}
-use Rattle.hhbc_ops.specs.Ops.{op_goes_on, op_throws}
 use Rattle.hhbc_repo.specs.Codes.{local_of, op_pops, op_pushes, pops, pushes, throws, goes_on, labels}
 use Rattle.hhbc_repo.specs.Edges.{Edge, Next, To, Handler, target, edges, next_edges, handler_of}
 use Rattle.hhbc_repo.specs.Form.{FitsOperands, FitsCode}
