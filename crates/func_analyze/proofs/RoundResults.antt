@@ -19,7 +19,8 @@ use Rattle.abstract_step.specs.Flow.{Row, Flows, flow, code_flow, body_flow, com
 use Rattle.abstract_step.proofs.Rows.{same_row}
 use Rattle.func_analyze.specs.Solution.{Table, HasState, IsLeast}
 use Rattle.func_analyze.specs.Rounds.{initial_types, IsReturned, IsHeld, IsRound}
-use Rattle.func_analyze.specs.Results.{BodyResult, WritesTo, IsResult, IsAmong, AreJoinedTo, ResultsMakeRound, ResultsStay}
+use Rattle.func_analyze.specs.Results.{BodyResult, WritesTo, IsResult, IsAmong, AreJoinedTo, ResultsMakeRound}
+use Rattle.func_analyze.specs.Dependencies.{ResultsDependOnNames}
 use Rattle.func_analyze.proofs.ClassChains.{classes_are_transitive}
 use Rattle.func_analyze.proofs.RoundOrder.{found}
 use Rattle.func_analyze.proofs.Trimmed.{least_is_by_flows}
@@ -118,7 +119,7 @@ flow_same : (r : Linked) (F G : Facts) (n : ℕ) (o : Option Body) (p : ℕ) (s 
 flow_same r F G n None p s = refl
 flow_same r F G n (Some b) p s = code_same r F G n b p (code_at b p) s
 
-pub results_stay : ResultsStay
+results_stay : (r : Linked) (F G : Facts) (n : ℕ) (x : BodyResult) → IsResult r F n x → IsResult r G n x
 results_stay r F G n x is =
     let same = λ (p : ℕ) (s : State). flow_same r F G n (body_at r n) p s in
     record {
@@ -156,3 +157,6 @@ results_stay r F G n x is =
       reached = w.reached;
       written = subst (λ (o : Flows). Contains o.effects (record { property = q; type = t })) (same w.position w.state) w.written;
     }
+
+pub results_depend_on_names : ResultsDependOnNames
+results_depend_on_names r F G n x same is = results_stay r F G n x is

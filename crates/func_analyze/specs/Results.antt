@@ -56,7 +56,3 @@ abbrev pub ResultsMakeRound : Type 0
 ResultsMakeRound =
     (r : Linked) (F G : Facts) (results : List BodyResult) → length results ≡ length (bodies r)
     → ((n : ℕ) (x : BodyResult) → slice_get results n ≡ Some x → IsResult r F n x) → AreJoinedTo r results G → IsRound r F G
-
--- what a body of codes of constants and locals gives doesn't depend on facts
-abbrev pub ResultsStay : Type 0
-ResultsStay = (r : Linked) (F G : Facts) (n : ℕ) (x : BodyResult) → IsResult r F n x → IsResult r G n x

@@ -15,7 +15,9 @@ pub use laws::{
     chain_is_least, facts_are_true, frames_lie, second_is_faithful, second_is_unique,
 };
 pub use problem::Problem;
-pub use round_laws::{facts_never_rise, lower_facts_lower_round, results_make_round, results_stay};
+pub use round_laws::{
+    facts_never_rise, lower_facts_lower_round, results_depend_on_names, results_make_round,
+};
 pub use solution_laws::{
     classes_are_transitive, least_is_alive, least_is_by_flows, least_of_flows,
     lower_facts_lower_least,

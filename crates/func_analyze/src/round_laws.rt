@@ -1,6 +1,7 @@
 //! Laws of rounds, each the contract of a function that does nothing.
 
-ghost use Rattle.func_analyze.specs.Results.{ResultsMakeRound, ResultsStay};
+ghost use Rattle.func_analyze.specs.Dependencies.{ResultsDependOnNames};
+ghost use Rattle.func_analyze.specs.Results.{ResultsMakeRound};
 ghost use Rattle.func_analyze.specs.RoundLaws.{FactsNeverRise, LowerFactsLowerRound};
 
 /// Under lower facts a round gives lower facts, where those above are proper.
@@ -19,7 +20,8 @@ pub fn results_make_round()
     ensures { ResultsMakeRound }
 {}
 
-/// What a body of codes of constants and locals gives is the same under all facts.
-pub fn results_stay()
-    ensures { ResultsStay }
+/// What a body gives depends on the facts of its dependencies alone: those of the functions, methods
+/// and properties that its codes name.
+pub fn results_depend_on_names()
+    ensures { ResultsDependOnNames }
 {}

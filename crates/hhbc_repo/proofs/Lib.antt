@@ -11,3 +11,4 @@ mod LinkExamples
 pub mod TestedRuns
 pub mod Walking
 pub mod SyntaxExamples
+mod SampleExamples

@@ -2,9 +2,9 @@
 use Rattle.std.proofs.Common.{◌≡◌, ℕ, zero, suc, ◌+◌, refl, ap, subst, Some, List, [], ◌∷◌, slice_get, length, arith}
 use Rattle.hhbc_repo.specs.Bodies.{numbers}
 use Rattle.func_analyze.specs.Results.{IsResult}
-use Rattle.func_analyze.proofs.RoundResults.{results_make_round, results_stay}
+use Rattle.func_analyze.proofs.RoundResults.{results_make_round, results_depend_on_names}
 use Rattle.round_pool.specs.Pieces.{AllGiven}
-use Rattle.round_pool.specs.ResultRounds.{ResultRoundsAreFacts, NothingDepends}
+use Rattle.round_pool.specs.ResultRounds.{ResultRoundsAreFacts, NamesAreDependencies}
 
 -- as many results as numbers, each given by its number
 given_count : {A : Type 0} (gives : ℕ → A → Type 0) (first count : ℕ) (xs : List A) → AllGiven gives (numbers first count) xs → length xs ≡ count
@@ -37,5 +37,5 @@ result_rounds_are_facts Name depends differs r (suc n) G is = (
       subst (λ m. IsResult r is.0 m x) z (given_at (IsResult r is.0) 0 _ is.2.results is.2.given m x e)) is.2.joined,
 )
 
-pub nothing_depends : (Name : Type 0) → NothingDepends Name
-nothing_depends Name differs r F G n x same is = results_stay r F G n x is
+pub names_are_dependencies : NamesAreDependencies
+names_are_dependencies r differs sound F G n x same is = results_depend_on_names r F G n x (λ d m. sound F G d (same d m)) is

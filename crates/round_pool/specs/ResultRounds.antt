@@ -1,8 +1,9 @@
 -- Rounds of the analysis of bodies, by the results that are kept for each.
-use Rattle.std.specs.Prelude.{ℕ, Bool, List, [], length}
+use Rattle.std.specs.Prelude.{◌≡◌, ℕ, Bool, false, List, length}
 use Rattle.hhbc_repo.specs.Linked.{Linked}
 use Rattle.hhbc_repo.specs.Bodies.{bodies}
 use Rattle.hhbc_repo.specs.Truth.{Facts}
+use Rattle.func_analyze.specs.Dependencies.{Dependency, dependencies, AreSame}
 use Rattle.func_analyze.specs.Results.{BodyResult, IsResult, AreJoinedTo}
 use Rattle.func_analyze.specs.Rounds.{IsFacts, top}
 use Rattle.round_pool.specs.Queue.{Bodies, DependsAlone, AreFactsAfter}
@@ -27,6 +28,9 @@ ResultRoundsAreFacts Name =
     (depends : ℕ → List Name) (differs : Facts → Facts → Name → Bool) (r : Linked)
     → (n : ℕ) (G : Facts) → AreFactsAfter (by_results Name depends differs r) n G → IsFacts r n G
 
--- codes of constants and locals depend on no fact
-abbrev pub NothingDepends : Type 0 → Type 0
-NothingDepends Name = (differs : Facts → Facts → Name → Bool) (r : Linked) → DependsAlone (by_results Name (λ b. []) differs r)
+-- with the dependencies of its codes, and a test that is false only where the facts of a name are the same, what a body gives depends on those alone
+abbrev pub NamesAreDependencies : Type 0
+NamesAreDependencies =
+    (r : Linked) (differs : Facts → Facts → Dependency → Bool)
+    → ((F G : Facts) (d : Dependency) → differs F G d ≡ false → AreSame r F G d.kind d.name)
+    → DependsAlone (by_results Dependency (dependencies r) differs r)

@@ -11,8 +11,8 @@ pub use gate::{Gate, OpenGate};
 pub use laws::answers_follow_from_the_jobs;
 pub use piece::pieces;
 pub use queue_laws::{
-    Dependents, empty_queue_stays, nothing_depends, queue_gives_round, result_rounds_are_facts,
-    rounds_give_one,
+    Dependents, empty_queue_stays, names_are_dependencies, queue_gives_round,
+    result_rounds_are_facts, rounds_give_one,
 };
 pub use worker::Worker;
 

@@ -1,7 +1,7 @@
 //! Laws of rounds over a queue, each the contract of a function that does nothing.
 
 ghost use Rattle.round_pool.specs.Queue.{Bodies, QueueGivesRound, EmptyQueueStays, RoundsGiveOne};
-ghost use Rattle.round_pool.specs.ResultRounds.{NothingDepends, ResultRoundsAreFacts};
+ghost use Rattle.round_pool.specs.ResultRounds.{NamesAreDependencies, ResultRoundsAreFacts};
 
 /// Bodies, what each gives under facts, and the facts on which that depends.
 ///
@@ -37,7 +37,7 @@ pub fn result_rounds_are_facts<N>()
     ensures { ResultRoundsAreFacts N }
 {}
 
-/// What a body of codes of constants and locals gives depends on no fact.
-pub fn nothing_depends<N>()
-    ensures { NothingDepends N }
+/// The names of functions, methods and properties in its codes are what a body depends on.
+pub fn names_are_dependencies()
+    ensures { NamesAreDependencies }
 {}

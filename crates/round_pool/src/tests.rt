@@ -159,7 +159,6 @@ fn bodies_by_results_go_in_rounds(_rt: HostRuntime) -> Result<(), Fail> {
     queue_gives_round::<NoBodies>();
     empty_queue_stays::<NoBodies>();
     rounds_give_one::<NoBodies>();
-    nothing_depends::<u32>();
     result_rounds_are_facts::<u32>();
     Ok(())
 }
