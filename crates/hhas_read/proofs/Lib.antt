@@ -3,3 +3,4 @@ pub mod Joining
 pub mod Looking
 pub mod OneToken
 pub mod Said
+pub mod Listed

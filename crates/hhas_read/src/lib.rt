@@ -2,6 +2,7 @@
 #![tactic(auto)]
 
 mod fixed;
+mod lists;
 mod reader;
 mod singles;
 
