@@ -4,3 +4,5 @@ pub mod Looking
 pub mod OneToken
 pub mod Said
 pub mod Listed
+pub mod Choice
+pub mod Parens

@@ -1,5 +1,5 @@
 -- After some tokens of a word, what is left of the word is a word of another language.
-use Rattle.std.proofs.Common.{◌≡◌, true, List, [], ◌∷◌, ◌++◌, length, drop, refl, sym, ap, ◌∙◌, append_assoc, subst, Err}
+use Rattle.std.proofs.Common.{◌≡◌, true, List, [], ◌∷◌, ◌++◌, length, drop, refl, sym, ap, ◌∙◌, append_assoc, subst, Result, Ok, Err}
 use Rattle.hhas_lex.specs.Tokens.{Token, front}
 use Rattle.hhbc_repo.specs.Languages.{Lang}
 use Rattle.hhas_read.specs.declared.reader.Stop.{Stop}
@@ -95,3 +95,9 @@ pub stop_lifts : {V W : Type 0} (F : Follow) (N : Lang V) (M : Lang W) (old mid 
     → Resumes F N used M f mid.tokens → Past used old mid → Reads F M mid (Err e) new → Reads F N old (Err e) new
 stop_lifts F N M old mid new used f Syntax r p s = stuck_lifts F N M old mid new used f r p s
 stop_lifts F N M old mid new used f NoMemory r p s = tt
+
+-- the same, where the value is that of the whole
+pub reads_on : {V : Type 0} (F : Follow) (N M : Lang V) (old mid new : Placed) (used : List Token) (r : Result V Stop)
+    → Resumes F N used M (λ v. v) mid.tokens → Past used old mid → Reads F M mid r new → Reads F N old r new
+reads_on F N M old mid new used (Ok v) h p t = taken_lifts F N M old mid new used (λ v. v) v h p t
+reads_on F N M old mid new used (Err e) h p s = stop_lifts F N M old mid new used (λ v. v) e h p s

@@ -31,4 +31,19 @@ impl<'a> Reader<'a> {
             self.skip();
         }
     }
+
+    /// Locals in parentheses, perhaps none.
+    pub fn params(&mut self, alloc: Global) -> Result<Seq<Text>, Stop>
+        ensures { Reads any Params self.old result self.new }
+    {
+        if !self.is_mark(b'(') {
+            return Err(Stop::Syntax);
+        }
+        self.skip();
+        if self.is_mark(b')') {
+            self.skip();
+            return Ok(Seq::new(alloc));
+        }
+        self.locals_to(alloc, b')')
+    }
 }
