@@ -6,3 +6,4 @@ pub mod Said
 pub mod Listed
 pub mod Choice
 pub mod Parens
+pub mod Reserved

@@ -2,6 +2,7 @@
 #![tactic(auto)]
 
 mod fixed;
+mod labels;
 mod lists;
 mod reader;
 mod singles;
