@@ -1,10 +1,12 @@
 -- What is left of the languages that the grammar is made of.
-use Rattle.std.proofs.Common.{◌≡◌, true, ◌&&◌, List, [], ◌∷◌, ◌++◌, refl, sym, ap, ◌∙◌, append_assoc, subst}
+use Rattle.std.proofs.Common.{◌≡◌, true, ◌&&◌, List, [], ◌∷◌, ◌++◌, refl, sym, ap, ◌∙◌, append_assoc, subst, Err}
 use Rattle.std.specs.List.{list_all}
 use Rattle.std.proofs.lemmas.List.Folds.{list_all-append}
 use Rattle.hhas_lex.specs.Tokens.{Token, front}
 use Rattle.hhbc_repo.specs.Languages.{Lang, Says, Behind, Ended, Both, Means}
-use Rattle.hhas_read.specs.Reading.{Placed, Follow, Viable, StuckAt, Taken, next, may_stand}
+use Rattle.hhas_read.specs.declared.reader.Stop.{Stop}
+use Rattle.hhas_read.specs.declared.reader.Stop.TheVariants.{Syntax, NoMemory}
+use Rattle.hhas_read.specs.Reading.{Placed, Follow, Viable, StuckAt, Taken, Reads, next, may_stand}
 use Rattle.hhas_read.proofs.Resuming.{Resumes, cancel, past_none}
 
 all_append : (a b : List Token) → list_all may_stand a ≡ true → list_all may_stand b ≡ true → list_all may_stand (a ++ b) ≡ true
@@ -44,6 +46,11 @@ module _ {V W : Type 0} (F G : Follow) (A : Lang V) (B : Lang W) (leads : LeadsO
     dead = λ w v x y n o e. s.dead n.first v.0 (n.second ++ x) y n.left (leads n.second v.1 x n.right o)
         (sym (append_assoc n.first n.second x) ∙ ap (λ l. l ++ x) (sym n.tokens) ∙ e);
   }
+
+pub both_stop : {V W : Type 0} (F G : Follow) (A : Lang V) (B : Lang W) → LeadsOn F B G → (old new : Placed) (e : Stop) → Viable B []
+    → Reads G A old (Err e) new → Reads F (Both A B) old (Err e) new
+both_stop F G A B leads old new Syntax some s = both_stuck F G A B leads old new some s
+both_stop F G A B leads old new NoMemory some s = tt
 
 pub both_some : {V W : Type 0} (A : Lang V) (B : Lang W) → Viable A [] → Viable B [] → Viable (Both A B) []
 both_some A B a b = record {

@@ -1,8 +1,10 @@
 -- After some tokens of a word, what is left of the word is a word of another language.
-use Rattle.std.proofs.Common.{◌≡◌, true, List, [], ◌∷◌, ◌++◌, length, drop, refl, sym, ap, ◌∙◌, append_assoc, subst}
+use Rattle.std.proofs.Common.{◌≡◌, true, List, [], ◌∷◌, ◌++◌, length, drop, refl, sym, ap, ◌∙◌, append_assoc, subst, Result, Ok, Err}
 use Rattle.hhas_lex.specs.Tokens.{Token, front}
 use Rattle.hhbc_repo.specs.Languages.{Lang}
-use Rattle.hhas_read.specs.Reading.{Placed, Past, Follow, StuckAt, Taken, next}
+use Rattle.hhas_read.specs.declared.reader.Stop.{Stop}
+use Rattle.hhas_read.specs.declared.reader.Stop.TheVariants.{Syntax, NoMemory}
+use Rattle.hhas_read.specs.Reading.{Placed, Past, Follow, StuckAt, Taken, Reads, next}
 use Rattle.std.proofs.lemmas.List.{length-append, drop-drop}
 
 pub cancel : {A : Type 0} (a x y : List A) → a ++ x ≡ a ++ y → x ≡ y
@@ -88,3 +90,14 @@ stuck_lifts F N M old mid new used f r p s = record {
       let one = r.back w v x ((s.read ++ next new ∷ []) ++ y) n o (front_dead s.read mid.tokens new.tokens y s.past.tokens) (d ∙ far) in
       s.dead one.0 one.1 x y one.2 o (cancel used _ _ (sym (append_assoc used one.0 x) ∙ ap (λ l. l ++ x) (sym one.3) ∙ d ∙ far));
 }
+
+pub stop_lifts : {V W : Type 0} (F : Follow) (N : Lang V) (M : Lang W) (old mid new : Placed) (used : List Token) (f : W → V) (e : Stop)
+    → Resumes F N used M f mid.tokens → Past used old mid → Reads F M mid (Err e) new → Reads F N old (Err e) new
+stop_lifts F N M old mid new used f Syntax r p s = stuck_lifts F N M old mid new used f r p s
+stop_lifts F N M old mid new used f NoMemory r p s = tt
+
+-- the same, where the value is that of the whole
+pub reads_on : {V : Type 0} (F : Follow) (N M : Lang V) (old mid new : Placed) (used : List Token) (r : Result V Stop)
+    → Resumes F N used M (λ v. v) mid.tokens → Past used old mid → Reads F M mid r new → Reads F N old r new
+reads_on F N M old mid new used (Ok v) h p t = taken_lifts F N M old mid new used (λ v. v) v h p t
+reads_on F N M old mid new used (Err e) h p s = stop_lifts F N M old mid new used (λ v. v) e h p s

@@ -2,9 +2,10 @@
 -- are the front of no word.
 use Rattle.std.specs.Prelude.{◌≡◌, ℕ, Bool, true, false, List, [], ◌∷◌, ◌++◌, length, drop, Result, Ok, Err}
 use Rattle.std.specs.List.{list_all}
-use Rattle.hhas_lex.specs.Tokens.{Token, End, front}
+use Rattle.hhas_lex.specs.Tokens.{Token, End, Mark, front}
 use Rattle.hhas_lex.specs.Spelling.{is_proper}
-use Rattle.hhbc_repo.specs.Languages.{Lang}
+use Rattle.hhbc_repo.specs.CodeSyntax.{ALocal}
+use Rattle.hhbc_repo.specs.Languages.{Lang, Ended, Separated}
 use Rattle.hhas_read.specs.declared.reader.Stop.{Stop}
 use Rattle.hhas_read.specs.declared.reader.Stop.TheVariants.{Syntax, NoMemory}
 
@@ -71,3 +72,7 @@ abbrev pub Reads : {V : Type 0} → Follow → Lang V → Placed → Result V St
 Reads F N old (Ok v) new = Taken F N old new v
 Reads F N old (Err Syntax) new = StuckAt F N old new
 Reads F N old (Err NoMemory) new = Unit {0}
+
+-- locals with commas between them, and the mark at their end
+abbrev pub LocalsTo : ℕ → Lang (List (List ℕ))
+LocalsTo end = Ended (Separated 44 ALocal) (Mark end ∷ [])

@@ -1,8 +1,16 @@
-//! Reads texts.
+//! Reads texts, exactly: each function accepts what its rule of the grammar spells and else stops at the first token
+//! that leads to no word of the rule. So far it has the single tokens, fixed tokens, labels, lists of locals and parameters;
+//! types, codes, bodies, classes and whole texts are still to come.
 #![tactic(auto)]
 
 mod fixed;
+mod labels;
+mod lists;
 mod reader;
 mod singles;
 
+pub use labels::is_reserved;
 pub use reader::{Piece, Reader, Stop};
+
+#[cfg(test)]
+mod tests;

@@ -1,7 +1,7 @@
 //! The tokens of a text from its front, the next one in sight.
 
 ghost use Rattle.std.specs.Prelude.{◌≡◌, ◌≤◌, ◌<◌, ◌^◌, [], ◌∷◌, length, drop, IfOk, IfSome};
-ghost use Rattle.hhas_lex.specs.Tokens.{left, left_places, tokens, places, token_of, followed};
+ghost use Rattle.hhas_lex.specs.Tokens.{left, left_places, tokens, places, token_of, followed, front_place};
 ghost use Rattle.hhas_read.specs.Pieces.{Says, IsInner, IsValue, told};
 ghost use Rattle.hhas_read.specs.Reading.{Past, next};
 
@@ -143,6 +143,13 @@ impl<'a> Reader<'a> {
             }
             None => Piece::Bad,
         }
+    }
+
+    /// Where the next token begins, or the place where none does.
+    pub fn place(&self) -> u32
+        ensures { result ≡ front_place self.now.places }
+    {
+        self.start
     }
 
     /// Goes past the next token.

@@ -55,7 +55,7 @@ other_names =
 
 -- whether a word names an instruction, a base, Dim, a final or an assertion, and so no position
 abbrev pub is_reserved : List ℕ → Bool
-is_reserved w = is_some (op_called w) || list_any (bytes_eq w) other_names
+is_reserved w = is_some (op_called w) || list_any (λ other. bytes_eq other w) other_names
 
 abbrev pub ALabel : Lang (List ℕ)
 ALabel ts w = (ts ≡ Word w ∷ []) × (is_reserved w ≡ false)
