@@ -7,3 +7,4 @@ pub mod Listed
 pub mod Choice
 pub mod Parens
 pub mod Reserved
+pub mod Tags

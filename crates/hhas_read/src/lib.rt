@@ -1,5 +1,6 @@
 //! Reads texts, exactly: each function accepts what its rule of the grammar spells and else stops at the first token
-//! that leads to no word of the rule. So far it has the single tokens, fixed tokens, labels, lists of locals and parameters;
+//! that leads to no word of the rule. So far it has the single tokens, fixed tokens, labels, words with a
+//! colon and what follows them, lists of locals and parameters;
 //! types, codes, bodies, classes and whole texts are still to come.
 #![tactic(auto)]
 
@@ -8,6 +9,7 @@ mod labels;
 mod lists;
 mod reader;
 mod singles;
+mod tagged;
 
 pub use labels::is_reserved;
 pub use reader::{Piece, Reader, Stop};
