@@ -8,3 +8,4 @@ pub mod Choice
 pub mod Parens
 pub mod Reserved
 pub mod Tags
+pub mod Bases

@@ -1,6 +1,7 @@
 use super::*;
 use hack_values::{Seq, Text};
 use hhbc_ops::{IncDecOp, QueryMode, SetOpOp};
+use hhbc_repo::BaseParts;
 use std::process::Abort;
 use std::test::Fail;
 
@@ -67,6 +68,17 @@ fn words_with_a_meaning_are_read(rt: HostRuntime) {
     spelled(&rt, reader.tagged_string(alloc, b"ET"), b"s");
     let answer = reader.set_op();
     stops_at(&rt, answer, &reader, 55);
+}
+
+#[test]
+fn bases_are_read(rt: HostRuntime) {
+    let alloc = rt.alloc();
+    let mut reader = Reader::new(b"BaseC 3 BaseH BaseL $a BaseL a");
+    assert!(&rt; matches!(reader.base(alloc), Ok(BaseParts::Stack(3))));
+    assert!(&rt; matches!(reader.base(alloc), Ok(BaseParts::This)));
+    assert!(&rt; matches!(reader.base(alloc), Ok(BaseParts::Local(_))));
+    let answer = reader.base(alloc);
+    stops_at(&rt, answer, &reader, 29);
 }
 
 #[test]
