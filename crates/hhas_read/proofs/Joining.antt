@@ -9,7 +9,7 @@ use Rattle.hhas_read.specs.declared.reader.Stop.TheVariants.{Syntax, NoMemory}
 use Rattle.hhas_read.specs.Reading.{Placed, Follow, Viable, StuckAt, Taken, Reads, next, may_stand}
 use Rattle.hhas_read.proofs.Resuming.{Resumes, cancel, past_none}
 
-all_append : (a b : List Token) → list_all may_stand a ≡ true → list_all may_stand b ≡ true → list_all may_stand (a ++ b) ≡ true
+pub all_append : (a b : List Token) → list_all may_stand a ≡ true → list_all may_stand b ≡ true → list_all may_stand (a ++ b) ≡ true
 all_append a b e f = list_all-append may_stand a b ∙ ap (λ c. c && list_all may_stand b) e ∙ f
 
 -- what stands behind a word of B may follow a word of A, and so may what B's words begin with

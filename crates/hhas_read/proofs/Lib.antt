@@ -7,3 +7,5 @@ pub mod Listed
 pub mod Choice
 pub mod Parens
 pub mod Reserved
+pub mod Tags
+pub mod Bases

@@ -2,10 +2,10 @@
 -- are the front of no word.
 use Rattle.std.specs.Prelude.{◌≡◌, ℕ, Bool, true, false, List, [], ◌∷◌, ◌++◌, length, drop, Result, Ok, Err}
 use Rattle.std.specs.List.{list_all}
-use Rattle.hhas_lex.specs.Tokens.{Token, End, Mark, front}
+use Rattle.hhas_lex.specs.Tokens.{Token, End, Mark, Word, front}
 use Rattle.hhas_lex.specs.Spelling.{is_proper}
 use Rattle.hhbc_repo.specs.CodeSyntax.{ALocal}
-use Rattle.hhbc_repo.specs.Languages.{Lang, Ended, Separated}
+use Rattle.hhbc_repo.specs.Languages.{Lang, Behind, Ended, Says, Separated}
 use Rattle.hhas_read.specs.declared.reader.Stop.{Stop}
 use Rattle.hhas_read.specs.declared.reader.Stop.TheVariants.{Syntax, NoMemory}
 
@@ -76,3 +76,11 @@ Reads F N old (Err NoMemory) new = Unit {0}
 -- locals with commas between them, and the mark at their end
 abbrev pub LocalsTo : ℕ → Lang (List (List ℕ))
 LocalsTo end = Ended (Separated 44 ALocal) (Mark end ∷ [])
+
+-- a word with a colon behind it
+abbrev pub Tag : List ℕ → Lang (Unit {0})
+Tag name = Says (Word name ∷ Mark 58 ∷ []) tt
+
+-- and what follows it
+abbrev pub Tagged : {V : Type 0} → List ℕ → Lang V → Lang V
+Tagged name A = Behind (Word name ∷ Mark 58 ∷ []) A

@@ -1,13 +1,17 @@
 //! Reads texts, exactly: each function accepts what its rule of the grammar spells and else stops at the first token
-//! that leads to no word of the rule. So far it has the single tokens, fixed tokens, labels, lists of locals and parameters;
+//! that leads to no word of the rule. So far it has the single tokens, fixed tokens, labels, words with a
+//! colon and what follows them, words of operators and queries, bases, lists of locals and parameters;
 //! types, codes, bodies, classes and whole texts are still to come.
 #![tactic(auto)]
 
 mod fixed;
 mod labels;
 mod lists;
+mod members;
+mod named_words;
 mod reader;
 mod singles;
+mod tagged;
 
 pub use labels::is_reserved;
 pub use reader::{Piece, Reader, Stop};

@@ -1,5 +1,7 @@
 use super::*;
 use hack_values::{Seq, Text};
+use hhbc_ops::{IncDecOp, QueryMode, SetOpOp};
+use hhbc_repo::BaseParts;
 use std::process::Abort;
 use std::test::Fail;
 
@@ -48,6 +50,35 @@ fn single_tokens_are_read(rt: HostRuntime) {
     assert_eq!(&rt; reader.mark(b'='), Ok(()));
     assert_eq!(&rt; reader.directive(b"try"), Ok(()));
     assert_eq!(&rt; reader.place(), 36);
+}
+
+#[test]
+fn words_with_a_meaning_are_read(rt: HostRuntime) {
+    let alloc = rt.alloc();
+    let mut reader = Reader::new(
+        b"ConcatEqual PostDec Isset EI:-1 EC:0 PT:p EL:$k ET:\"s\" PreInc",
+    );
+    assert_eq!(&rt; reader.set_op(), Ok(SetOpOp::ConcatEqual));
+    assert_eq!(&rt; reader.inc_dec(), Ok(IncDecOp::PostDec));
+    assert_eq!(&rt; reader.query_mode(), Ok(QueryMode::Isset));
+    assert_eq!(&rt; reader.tagged_integer(b"EI"), Ok(-1));
+    assert_eq!(&rt; reader.tagged_index(b"EC"), Ok(0));
+    spelled(&rt, reader.tagged_word(alloc, b"PT"), b"p");
+    spelled(&rt, reader.tagged_local(alloc, b"EL"), b"k");
+    spelled(&rt, reader.tagged_string(alloc, b"ET"), b"s");
+    let answer = reader.set_op();
+    stops_at(&rt, answer, &reader, 55);
+}
+
+#[test]
+fn bases_are_read(rt: HostRuntime) {
+    let alloc = rt.alloc();
+    let mut reader = Reader::new(b"BaseC 3 BaseH BaseL $a BaseL a");
+    assert!(&rt; matches!(reader.base(alloc), Ok(BaseParts::Stack(3))));
+    assert!(&rt; matches!(reader.base(alloc), Ok(BaseParts::This)));
+    assert!(&rt; matches!(reader.base(alloc), Ok(BaseParts::Local(_))));
+    let answer = reader.base(alloc);
+    stops_at(&rt, answer, &reader, 29);
 }
 
 #[test]

@@ -1,0 +1,15 @@
+use Rattle.std.proofs.Common.{[], ◌∷◌, refl, pos, lit≤}
+use Rattle.hhas_lex.specs.Tokens.{Integer, Word, Mark}
+use Rattle.hhbc_repo.specs.CodeSyntax.{AnIndex}
+use Rattle.hhas_read.specs.Reading.{Viable, any}
+use Rattle.hhas_read.proofs.Tags.{behind_reads, behind_stop}
+use Rattle.hhas_read.proofs.reader.Reader.tagged_index.Goals as goal
+
+some : Viable AnIndex []
+some = record { more = Integer (pos 0) ∷ []; value = 0; word = (refl, lit≤ tt); proper = refl }
+
+pub returns-in-Ok : goal.returns-in-Ok
+returns-in-Ok c = behind_reads any (Word c.args.name.now ∷ Mark 58 ∷ []) AnIndex c.args.self.now c.tag.new.self c.index.new.self c.index.result c.in-Ok.ensures c.index.ensures
+
+pub returns-in-Err : goal.returns-in-Err
+returns-in-Err c = behind_stop any (Word c.args.name.now ∷ Mark 58 ∷ []) AnIndex c.args.self.now c.tag.new.self c.in-Err.stop some c.in-Err.ensures
