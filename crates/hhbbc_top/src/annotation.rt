@@ -354,5 +354,6 @@ pub fn annotated(alloc: Global, main: Main) -> Result<Repo, NoMemory>
         positions,
         regions: Seq::new(alloc),
     })?;
-    Ok(Repo::new(functions, Seq::new(alloc)))
+    let repo = Repo::new(alloc, functions, Seq::new(alloc))?;
+    Ok(repo)
 }

@@ -12,3 +12,7 @@ pub mod TestedRuns
 pub mod Walking
 pub mod SyntaxExamples
 mod SampleExamples
+pub mod HomesFound
+pub mod Keyed
+pub mod Numbered
+pub mod OneFunction

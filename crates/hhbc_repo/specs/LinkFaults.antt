@@ -1,5 +1,5 @@
 -- The checks of linking, in order, as the list of all that fail: the first fault is the first of the list.
-use Rattle.std.specs.Prelude.{ℕ, zero, suc, ◌+◌, max, Bool, true, false, not, nat_le, nat_lt, nat_eq, ◌==◌, List, [], ◌∷◌, ◌++◌, map, length, take, Option, Some, None, is_some, slice_get, if◌then◌else◌, codes}
+use Rattle.std.specs.Prelude.{ℕ, zero, suc, max, Bool, false, not, nat_le, nat_lt, nat_eq, ◌==◌, List, [], ◌∷◌, ◌++◌, map, length, take, Option, Some, None, is_some, slice_get, if◌then◌else◌, codes}
 use Rattle.std.specs.List.{flat_map, position, list_any}
 use Rattle.std.specs.Cmp.Lexicographic.{pointwise}
 use Rattle.std.specs.Fmt.{decimal}
@@ -20,11 +20,9 @@ use Rattle.hhbc_repo.specs.declared.parts.AssertParts.{AssertParts}
 use Rattle.hhbc_repo.specs.declared.parts.AssertParts.TheVariants as claims
 use Rattle.hhbc_repo.specs.declared.parts.CodeParts.{CodeParts}
 use Rattle.hhbc_repo.specs.declared.parts.CodeParts.TheVariants as forms
-use Rattle.hhbc_repo.specs.declared.parts.InstrParts.{InstrParts}
 use Rattle.hhbc_repo.specs.declared.parts.ImmParts.{ImmParts}
 use Rattle.hhbc_repo.specs.declared.parts.ImmParts.TheVariants as imms
 use Rattle.hhbc_repo.specs.declared.parts.ArmParts.{ArmParts}
-use Rattle.hhbc_repo.specs.declared.parts.MemberSeqParts.{MemberSeqParts}
 use Rattle.hhbc_repo.specs.declared.parts.BaseParts.{BaseParts}
 use Rattle.hhbc_repo.specs.declared.parts.BaseParts.TheVariants as bases
 use Rattle.hhbc_repo.specs.declared.parts.MemberKeyParts.{MemberKeyParts}

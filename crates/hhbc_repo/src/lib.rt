@@ -2,9 +2,13 @@
 #![tactic(auto)]
 
 mod body;
+mod class_list;
 mod code;
+mod homes;
 mod laws;
 mod link_fault;
+mod members;
+mod name_table;
 mod parts;
 mod repo;
 mod soundness;

@@ -1,9 +1,17 @@
-ghost use Rattle.std.specs.Prelude.{◌≡◌};
+ghost use Rattle.std.specs.Prelude.{◌≡◌, ◌<◌, IfOk, Some, length, slice_get};
+ghost use Rattle.hhbc_repo.specs.Bodies.{bodies, class_names, tree_of};
+ghost use Rattle.hhbc_repo.specs.LinkFaults.{place_in};
+ghost use Rattle.hhbc_repo.specs.LookUps.{Sound, function_names, owners};
 
 use crate::body::Body;
-use hack_values::{Cell, Seq, Text};
+use crate::class_list::{list_of_classes, tree_of_classes};
+use crate::homes::{Home, homes};
+use crate::members::{Members, methods_of, properties_of};
+use crate::name_table::{NameTable, table_of_bodies, table_of_texts};
+use hack_values::{Cell, NoMemory, Seq, Text};
+use std::alloc::Global;
 use std::marker::Model;
-use type_lattice::HType;
+use type_lattice::{ClassTree, HType};
 
 /// A class that the repository declares. Classes are numbered from 6, behind those that are built in.
 #[derive(Debug, Drop)]
@@ -31,15 +39,24 @@ pub struct Property {
     pub stated: Option<HType>,
 }
 
-/// A repository: functions and classes, each in the order in which they are declared.
-#[derive(Debug, Drop)]
+/// A repository: functions and classes, each in the order in which they are declared, and tables in
+/// which they are looked up by name and by number.
+#[derive(Drop)]
 pub struct Repo {
     functions: Seq<Body>,
     classes: Seq<Class>,
+    function_table: NameTable,
+    class_table: NameTable,
+    class_list: Seq<Text>,
+    methods: Members,
+    properties: Members,
+    tree: ClassTree,
+    homes: Seq<Home>,
 }
 
 impl Model for Repo {
     ghost use Rattle.hhbc_repo.specs.Linked.{Linked};
+    ghost use Rattle.hhbc_repo.specs.Kept.{Kept};
 
     ghost Value = { Linked };
 
@@ -49,14 +66,34 @@ impl Model for Repo {
     ghost coded = { Prim.hlevel (codes, coded_val, coded_key) };
 
     ghost view = { λ r. record { functions = r.functions; classes = r.classes } };
+
+    ghost invariant = { λ r. Kept (record { functions = r.functions; classes = r.classes }) r.function_table r.class_table r.class_list r.methods r.properties r.tree r.homes };
 }
 
 impl Repo {
     /// A repository of these functions and classes.
-    pub fn new(functions: Seq<Body>, classes: Seq<Class>) -> Repo
-        ensures { result ≡ record { functions = functions; classes = classes } }
+    pub fn new(alloc: Global, functions: Seq<Body>, classes: Seq<Class>) -> Result<Repo, NoMemory>
+        requires { Sound (record { functions = functions; classes = classes }) }
+        ensures { IfOk result (λ repo. repo ≡ record { functions = functions; classes = classes }) }
     {
-        Repo { functions, classes }
+        let function_table = table_of_bodies(alloc, functions.as_slice())?;
+        let class_list = list_of_classes(alloc, classes.as_slice())?;
+        let class_table = table_of_texts(alloc, class_list.as_slice())?;
+        let methods = methods_of(alloc, functions.as_slice().len() as u32, classes.as_slice())?;
+        let properties = properties_of(alloc, classes.as_slice())?;
+        let tree = tree_of_classes(alloc, classes.as_slice())?;
+        let homes = homes(alloc, functions.as_slice(), classes.as_slice())?;
+        Ok(Repo {
+            functions,
+            classes,
+            function_table,
+            class_table,
+            class_list,
+            methods,
+            properties,
+            tree,
+            homes,
+        })
     }
 
     /// The functions.
@@ -71,5 +108,50 @@ impl Repo {
         ensures { result.now ≡ self.now.classes }
     {
         self.classes.as_slice()
+    }
+
+    /// The names of all classes by number, those of the built-in ones first.
+    pub fn class_names(&self) -> &[Text]
+        ensures { result.now ≡ class_names self.now }
+    {
+        self.class_list.as_slice()
+    }
+
+    /// The tree of all classes.
+    pub fn tree(&self) -> &ClassTree
+        ensures { result.now ≡ tree_of self.now }
+    {
+        &self.tree
+    }
+
+    /// How many functions and methods there are.
+    pub fn bodies(&self) -> u32
+        ensures { result ≡ length (bodies self.now) }
+    {
+        self.homes.as_slice().len() as u32
+    }
+
+    /// The class of a method; a function has none.
+    pub fn class_of(&self, body: u32) -> Option<u32>
+        requires { body < length (bodies self.now) }
+        ensures { slice_get (owners self.now) body ≡ Some result }
+    {
+        self.homes.as_slice()[body as usize].class
+    }
+
+    /// The first function of that name.
+    pub fn find_function(&self, name: &[u8]) -> Option<u32>
+        ensures { result ≡ place_in (function_names self.now.functions) name.now }
+    {
+        let place = self.function_table.find(name)?;
+        Some(place as u32)
+    }
+
+    /// The first class of that name.
+    pub fn find_class(&self, name: &[u8]) -> Option<u32>
+        ensures { result ≡ place_in (class_names self.now) name.now }
+    {
+        let place = self.class_table.find(name)?;
+        Some(place as u32)
     }
 }

@@ -1,0 +1,29 @@
+-- A repository of one function without classes is sound.
+use Rattle.std.proofs.Common.{◌≡◌, ℕ, zero, suc, [], ◌∷◌, refl, arith}
+use Rattle.type_lattice.specs.Classes.{Forest}
+use Rattle.type_lattice.specs.Walks.{AllEnded}
+use Rattle.type_lattice.proofs.Made.{is_forest}
+use Rattle.hhbc_repo.specs.declared.body.Body.{Body}
+use Rattle.hhbc_repo.specs.Bodies.{built_in_tree}
+use Rattle.hhbc_repo.specs.LookUps.{Sound}
+
+ended : AllEnded built_in_tree 6
+ended zero h = refl
+ended (suc zero) h = refl
+ended (suc (suc zero)) h = refl
+ended (suc (suc (suc zero))) h = refl
+ended (suc (suc (suc (suc zero)))) h = refl
+ended (suc (suc (suc (suc (suc zero))))) h = refl
+ended (suc (suc (suc (suc (suc (suc c)))))) h = absurd (omega arith)
+
+pub one_function : (b : Body) → Sound (record { functions = b ∷ []; classes = [] })
+one_function b = record {
+  functions = refl;
+  names = refl;
+  methods = refl;
+  properties = refl;
+  forest = is_forest built_in_tree refl ended;
+  body_count = omega arith;
+  class_count = omega arith;
+  property_count = omega arith;
+}

@@ -1,0 +1,97 @@
+//! Tables of names.
+
+ghost use Rattle.std.specs.Prelude.{◌≡◌, [], ◌∷◌, ◌++◌, OnOk, IfOk, IfSome, ◌<◌, length, map, true, false};
+ghost use Rattle.hhbc_repo.specs.LinkFaults.{names, place_in};
+ghost use Rattle.hhbc_repo.specs.Names.{distinct};
+
+use crate::body::Body;
+use crate::repo::Property;
+use hack_values::{NoMemory, Text};
+use indexmap::IndexSet;
+use std::alloc::Global;
+use std::marker::Model;
+
+/// Names, each once, in the order in which they were added. They are found by their bytes.
+#[derive(Drop)]
+pub(crate) struct NameTable {
+    keys: IndexSet<Vec<u8>>,
+}
+
+impl Model for NameTable {
+    ghost use Rattle.std.specs.Prelude.{List, ℕ};
+    ghost use Rattle.std.specs.Coded.{coded_list, coded_ℕ};
+    ghost use Rattle.hhbc_repo.specs.Names.{bytes_of};
+
+    ghost Value = { List (List ℕ) };
+
+    ghost coded = { coded_list (coded_list coded_ℕ) };
+
+    ghost view = { λ t. bytes_of t.keys.keys };
+}
+
+impl NameTable {
+    /// The table without names.
+    pub(crate) fn new(alloc: Global) -> NameTable
+        ensures { result ≡ [] }
+    {
+        NameTable {
+            keys: IndexSet::new(alloc),
+        }
+    }
+
+    /// The place of the first that is the name.
+    pub(crate) fn find(&self, name: &[u8]) -> Option<usize>
+        ensures { result ≡ place_in self.now name.now }
+    {
+        self.keys.get_index_of(name)
+    }
+
+    /// Adds a name that isn't there.
+    pub(crate) fn add(&mut self, alloc: Global, name: &[u8]) -> Result<(), NoMemory>
+        requires { names self.old name.now ≡ false }
+        ensures { OnOk result (self.new ≡ self.old ++ name.now ∷ []) }
+    {
+        let key = Vec::from_slice(alloc, name)?;
+        self.keys.insert(key)?;
+        Ok(())
+    }
+}
+
+/// The table of these texts.
+pub(crate) fn table_of_texts(alloc: Global, texts: &[Text]) -> Result<NameTable, NoMemory>
+    requires { distinct texts.now ≡ true }
+    ensures { IfOk result (λ table. table ≡ texts.now) }
+{
+    let mut table = NameTable::new(alloc);
+    for text in texts {
+        table.add(alloc, text.bytes())?;
+    }
+    Ok(table)
+}
+
+/// The table of the names of these bodies.
+pub(crate) fn table_of_bodies(alloc: Global, bodies: &[Body]) -> Result<NameTable, NoMemory>
+    requires { distinct (map (λ b. b.name) bodies.now) ≡ true }
+    ensures { IfOk result (λ table. table ≡ map (λ b. b.name) bodies.now) }
+{
+    let mut table = NameTable::new(alloc);
+    for body in bodies {
+        table.add(alloc, body.name.bytes())?;
+    }
+    Ok(table)
+}
+
+/// The table of the names of these properties.
+pub(crate) fn table_of_properties(
+    alloc: Global,
+    properties: &[Property],
+) -> Result<NameTable, NoMemory>
+    requires { distinct (map (λ p. p.name) properties.now) ≡ true }
+    ensures { IfOk result (λ table. table ≡ map (λ p. p.name) properties.now) }
+{
+    let mut table = NameTable::new(alloc);
+    for property in properties {
+        table.add(alloc, property.name.bytes())?;
+    }
+    Ok(table)
+}
