@@ -1,3 +1,5 @@
+use crate::annotation::annotated;
+use crate::form::read;
 use crate::{Status, hhbbc};
 use hack_values::{Seq, Text};
 use hh_io::{MemSink, MemSource};
@@ -300,5 +302,24 @@ fn other_words_are_usage(rt: HostRuntime) -> Result<(), Fail> {
             (Status::Usage, b"", b"usage\n"),
         )?;
     }
+    Ok(())
+}
+
+#[test]
+fn an_annotated_repository_is_looked_up(rt: HostRuntime) -> Result<(), Fail> {
+    let Ok(main) = read(rt.alloc(), FIRST) else {
+        return Err(Fail::from("the first example is of the form"));
+    };
+    let repo = annotated(rt.alloc(), main)?;
+    assert_eq!(rt; repo.bodies(), 1);
+    assert_eq!(rt; repo.class_of(0), None);
+    assert_eq!(rt; repo.find_function(b"main"), Some(0));
+    assert_eq!(rt; repo.find_function(b"x"), None);
+    assert_eq!(rt; repo.find_class(b"Exception"), Some(0));
+    assert_eq!(rt; repo.find_class(b"TypehintViolationException"), Some(5));
+    assert_eq!(rt; repo.find_class(b"main"), None);
+    assert_eq!(rt; repo.class_names().len(), 6);
+    assert_eq!(rt; repo.tree().below(3, 0), true);
+    assert_eq!(rt; repo.tree().below(0, 3), false);
     Ok(())
 }
