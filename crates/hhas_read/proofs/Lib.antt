@@ -9,3 +9,5 @@ pub mod Parens
 pub mod Reserved
 pub mod Tags
 pub mod Bases
+pub mod FirstWord
+pub mod KeyForms
