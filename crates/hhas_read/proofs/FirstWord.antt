@@ -3,14 +3,15 @@ use Rattle.std.proofs.Common.{◌≡◌, ℕ, List, [], ◌∷◌, ◌++◌, ◌
 use Rattle.std.specs.Str.{bytes_eq}
 use Rattle.std.proofs.lemmas.Slice.Eq.{bytes_eq-Decides}
 use Rattle.hhas_lex.specs.Tokens.{Token, Word, front}
-use Rattle.hhbc_repo.specs.Languages.{Lang, Means}
+use Rattle.hhbc_repo.specs.Languages.{Lang, Behind, Means}
 use Rattle.hhas_read.specs.declared.reader.Stop.{Stop}
 use Rattle.hhas_read.specs.declared.reader.Stop.TheVariants.{Syntax, NoMemory}
-use Rattle.hhas_read.specs.Reading.{Placed, Follow, Taken, Reads, next}
+use Rattle.hhas_read.specs.Reading.{Placed, Past, Follow, Taken, Reads, next}
 use Rattle.hhas_read.proofs.Reserved.{never_both}
 use Rattle.hhas_read.proofs.Said.{same_word}
 use Rattle.hhas_read.proofs.Choice.{first_is}
-use Rattle.hhas_read.proofs.Resuming.{Resumes, past_none, stop_lifts, taken_lifts}
+use Rattle.hhas_read.proofs.Joining.{behind_resumes}
+use Rattle.hhas_read.proofs.Resuming.{Resumes, past_none, reads_on, resumes_then, stop_lifts, taken_lifts}
 
 module _ {V : Type 0} (word : V → List ℕ) where
   -- the words of a language begin with the word of their value
@@ -59,3 +60,15 @@ means_left F N used M f left r = record {
   on = λ ts v m. subst (N (used ++ ts)) (sym m.is) (r.on ts m.value m.word);
   back = λ w v x y n o h e. let one = r.back w v x y n o h e in (one.0, v, record { value = one.1; word = one.2; is = one.4 }, one.3, refl);
 }
+
+-- a form's word was taken, and what stands behind it is read
+pub form_behind : {V W : Type 0} (N : Lang V) (word : V → List ℕ) (X : Lang W) (f : W → V) (name : List ℕ) → Begins word N → Form word f name
+    → ((w : List Token) (u : W) → Behind (Word name ∷ []) X w u → N w (f u)) → ((w : List Token) (u : W) → N w (f u) → Behind (Word name ∷ []) X w u)
+    → (F : Follow) (old mid new : Placed) (r : Result V Stop) → next old ≡ Word name → Past (next old ∷ []) old mid
+    → Reads F (Means f X) mid r new → Reads F N old r new
+form_behind N word X f name begins form on off F old mid new r is past s =
+    let B = Behind (Word name ∷ []) X in
+    let taken : Past (Word name ∷ []) old mid = subst (λ t. Past (t ∷ []) old mid) is past in
+    let here = form_resumes N word B f name begins form on off F old.tokens is in
+    let there = resumes_then F N B X [] (Word name ∷ []) old.tokens mid.tokens f (λ u. u) here (behind_resumes F (Word name ∷ []) X mid.tokens) taken.tokens in
+    reads_on F N (Means f X) old mid new (Word name ∷ []) r (means_left F N (Word name ∷ []) X f mid.tokens there) taken s

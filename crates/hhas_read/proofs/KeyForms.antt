@@ -176,3 +176,11 @@ set_narrow p never w k x y n o e = (n.0, other k (sym (ap front e) ∙ key_begin
     other : (k : MemberKeyParts) → next p ≡ Word (key_word k) → is_append k ≡ false
     other keys.Append e = absurd (never e)
     other _ e = refl
+
+pub some_query_key : Viable QueryKey []
+unfolding some_key
+some_query_key = record { more = some_key.more; value = some_key.value; word = (some_key.word.0, refl); proper = refl }
+
+pub some_set_key : Viable SetKey []
+unfolding some_key
+some_set_key = record { more = some_key.more; value = some_key.value; word = (some_key.word.0, refl); proper = refl }

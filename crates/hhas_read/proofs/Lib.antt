@@ -11,3 +11,6 @@ pub mod Tags
 pub mod Bases
 pub mod FirstWord
 pub mod KeyForms
+pub mod Pairs
+pub mod Operands
+pub mod FinalForms

@@ -1,9 +1,10 @@
 //! Reads texts, exactly: each function accepts what its rule of the grammar spells and else stops at the first token
 //! that leads to no word of the rule. So far it has the single tokens, fixed tokens, labels, words with a
-//! colon and what follows them, words of operators and queries, bases and keys, lists of locals and parameters;
+//! colon and what follows them, words of operators and queries, bases, keys and finals, lists of locals and parameters;
 //! types, codes, bodies, classes and whole texts are still to come.
 #![tactic(auto)]
 
+mod finals;
 mod fixed;
 mod keys;
 mod labels;
