@@ -21,7 +21,7 @@ final_word (finals.SetOp n op k) = codes "SetOpM"
 final_word (finals.IncDec n op k) = codes "IncDecM"
 final_word (finals.Unset n k) = codes "UnsetM"
 
-final_begins : (w : List Token) (f : FinalParts) (x : List Token) → AFinal w f → front (w ++ x) ≡ Word (final_word f)
+pub final_begins : (w : List Token) (f : FinalParts) (x : List Token) → AFinal w f → front (w ++ x) ≡ Word (final_word f)
 final_begins w (finals.Query n mode k) x m = ap (λ l. front (l ++ x)) m.tokens
 final_begins w (finals.Set n k) x m = ap (λ l. front (l ++ x)) m.tokens
 final_begins w (finals.SetOp n op k) x m = ap (λ l. front (l ++ x)) m.tokens

@@ -121,6 +121,17 @@ nullsafe_name (keys.PropName u) = inr refl
 nullsafe_name (keys.NullsafeName u) = inl (u, refl)
 nullsafe_name keys.Append = inr refl
 
+pub append : Form key_word (λ (u : Unit {0}). keys.Append) (codes "W")
+append (keys.ElemStack i) = inr refl
+append (keys.ElemLocal u) = inr refl
+append (keys.ElemText u) = inr refl
+append (keys.ElemInt i) = inr refl
+append (keys.PropStack i) = inr refl
+append (keys.PropLocal u) = inr refl
+append (keys.PropName u) = inr refl
+append (keys.NullsafeName u) = inr refl
+append keys.Append = inl (tt, refl)
+
 -- ---- another word
 
 pub change_begins : (w : List Token) (k : MemberKeyParts) (x : List Token) → ChangeKey w k → front (w ++ x) ≡ Word (key_word k)

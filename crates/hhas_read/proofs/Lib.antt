@@ -14,3 +14,6 @@ pub mod KeyForms
 pub mod Pairs
 pub mod Operands
 pub mod FinalForms
+pub mod FormLaws
+pub mod DimForms
+pub mod MemberForms

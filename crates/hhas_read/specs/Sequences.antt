@@ -1,13 +1,14 @@
--- The finals of member sequences.
-use Rattle.std.specs.Prelude.{◌≡◌, ℕ, Bool, true}
+-- What member sequences are made of.
+use Rattle.std.specs.Prelude.{◌≡◌, ℕ, Bool, true, ◌||◌, List}
+use Rattle.std.specs.List.{list_any}
 use Rattle.hhbc_ops.specs.declared.words.QueryMode.{QueryMode}
 use Rattle.hhbc_ops.specs.declared.words.SetOpOp.{SetOpOp}
 use Rattle.hhbc_ops.specs.declared.words.IncDecOp.{IncDecOp}
 use Rattle.hhbc_repo.specs.declared.parts.MemberKeyParts.{MemberKeyParts}
 use Rattle.hhbc_repo.specs.declared.parts.FinalParts.{FinalParts}
 use Rattle.hhbc_repo.specs.declared.parts.FinalParts.TheVariants as finals
-use Rattle.hhbc_repo.specs.Languages.{Lang, Both, Means}
-use Rattle.hhbc_repo.specs.CodeSyntax.{AChange, AFinal, AMode, AnIndex, ASetOp, ChangeKey, QueryKey, SetKey, is_query}
+use Rattle.hhbc_repo.specs.Languages.{Lang, Both, Many, Means}
+use Rattle.hhbc_repo.specs.CodeSyntax.{AChange, ADim, AFinal, AMode, AnIndex, ASetOp, ChangeKey, QueryKey, SetKey, is_nullsafe, is_query}
 
 abbrev pub query : ℕ × (QueryMode × MemberKeyParts) → FinalParts
 query p = finals.Query p.0 p.1.0 p.1.1
@@ -43,3 +44,7 @@ UnsetOperands = Means unset (Both AnIndex ChangeKey)
 -- a final behind keys, with whether one of them is null-safe
 abbrev pub FinalAfter : Bool → Lang FinalParts
 FinalAfter nullsafe ts f = AFinal ts f × (nullsafe ≡ true → is_query f ≡ true)
+
+-- keys with Dim and a final, behind keys of which one is null-safe or none
+abbrev pub DimsAfter : Bool → Lang (List MemberKeyParts × FinalParts)
+DimsAfter nullsafe ts p = Both (Many ADim) AFinal ts p × (nullsafe || list_any is_nullsafe p.0 ≡ true → is_query p.1 ≡ true)

@@ -1,6 +1,6 @@
 //! Reads texts, exactly: each function accepts what its rule of the grammar spells and else stops at the first token
 //! that leads to no word of the rule. So far it has the single tokens, fixed tokens, labels, words with a
-//! colon and what follows them, words of operators and queries, bases, keys and finals, lists of locals and parameters;
+//! colon and what follows them, words of operators and queries, member sequences, lists of locals and parameters;
 //! types, codes, bodies, classes and whole texts are still to come.
 #![tactic(auto)]
 
@@ -12,6 +12,7 @@ mod lists;
 mod members;
 mod named_words;
 mod reader;
+mod sequences;
 mod singles;
 mod tagged;
 
