@@ -32,10 +32,10 @@ form_same {V} {W} N word M f name begins form off law a b x y u v is n m e = by 
     by (inr d) =
         absurd (never_both (sym ((bytes_eq-Decides (word v) name).1 (same_word (word v) name (sym (begins b v y m) ∙ ap front (sym e) ∙ begins a (f u) x n ∙ ap Word is))) ∙ d))
 
-tagged_lawful : {W : Type 0} (name : List ℕ) (A : Lang W) → list_all may_stand (Word name ∷ Mark 58 ∷ []) ≡ true → Lawful any A → Lawful any (Tagged name A)
+pub tagged_lawful : {W : Type 0} (name : List ℕ) (A : Lang W) → list_all may_stand (Word name ∷ Mark 58 ∷ []) ≡ true → Lawful any A → Lawful any (Tagged name A)
 tagged_lawful name A e law = behind_lawful any (Word name ∷ Mark 58 ∷ []) A e law
 
-local_lawful : Lawful any ALocal
+pub local_lawful : Lawful any ALocal
 local_lawful = single_lawful Local any (codes "a") refl same_local
 
 key_same : (a b x y : List Token) (k l : MemberKeyParts) → AKey a k → AKey b l → a ++ x ≡ b ++ y → (a ≡ b) × (k ≡ l)

@@ -17,3 +17,5 @@ pub mod FinalForms
 pub mod FormLaws
 pub mod DimForms
 pub mod MemberForms
+pub mod Maybe
+pub mod IterForms

@@ -1,11 +1,13 @@
 //! Reads texts, exactly: each function accepts what its rule of the grammar spells and else stops at the first token
 //! that leads to no word of the rule. So far it has the single tokens, fixed tokens, labels, words with a
-//! colon and what follows them, words of operators and queries, member sequences, lists of locals and parameters;
-//! types, codes, bodies, classes and whole texts are still to come.
+//! colon and what follows them, words of operators, queries and kinds of cells, member sequences, the locals of an
+//! iterator, lists of locals and parameters; types, codes, bodies, classes and whole texts are still to come.
 #![tactic(auto)]
 
+mod cell_kinds;
 mod finals;
 mod fixed;
+mod iterators;
 mod keys;
 mod labels;
 mod lists;

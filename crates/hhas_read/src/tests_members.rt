@@ -1,6 +1,6 @@
 use super::tests::stops_at;
 use super::*;
-use hhbc_ops::{IncDecOp, QueryMode, SetOpOp};
+use hhbc_ops::{IncDecOp, IsTypeOp, QueryMode, SetOpOp};
 use hhbc_repo::{BaseParts, FinalParts, MemberKeyParts};
 use std::alloc::Global;
 use std::process::Abort;
@@ -144,4 +144,19 @@ fn other_sequences_stop_where_they_go_wrong(rt: HostRuntime) {
     no_sequence(&rt, alloc, b"BaseH UnsetM 255 EC:0", 13);
     no_sequence(&rt, alloc, b"BaseH Dim EC:0", 14);
     no_sequence(&rt, alloc, b"Dim EC:0 SetM 0 W", 0);
+}
+
+#[test]
+fn locals_of_iterators_are_read(rt: HostRuntime) {
+    let alloc = rt.alloc();
+    let mut reader = Reader::new(b"V:$v K:$k V:$v K:$k Null V:v");
+    assert!(&rt; matches!(reader.iter_locals(alloc), Ok((None, _))));
+    assert!(&rt; matches!(reader.iter_locals(alloc), Ok((Some(_), _))));
+    let answer = reader.iter_locals(alloc);
+    stops_at(&rt, answer, &reader, 20);
+    assert_eq!(&rt; reader.is_type(), Ok(IsTypeOp::Null));
+    let answer = reader.iter_locals(alloc);
+    stops_at(&rt, answer, &reader, 27);
+    let answer = reader.is_type();
+    stops_at(&rt, answer, &reader, 27);
 }
