@@ -7,7 +7,7 @@ use Rattle.hhas_read.specs.declared.reader.Stop.TheVariants.{Syntax, NoMemory}
 use Rattle.hhas_read.specs.Reading.{Placed, Follow, Taken, Reads, next}
 use Rattle.hhas_read.proofs.Joining.{NeverBegins}
 
-first_is : (l read m : List Token) → l ≡ read ++ m → (y : List Token) → (z : List Token) × ((read ++ front m ∷ []) ++ y ≡ front l ∷ z)
+pub first_is : (l read m : List Token) → l ≡ read ++ m → (y : List Token) → (z : List Token) × ((read ++ front m ∷ []) ++ y ≡ front l ∷ z)
 first_is l [] m e y = (y, ap (λ l. front l ∷ y) (sym e))
 first_is l (t ∷ read) m e y = ((read ++ front m ∷ []) ++ y, ap (λ l. front l ∷ ((read ++ front m ∷ []) ++ y)) (sym e))
 

@@ -9,3 +9,13 @@ pub mod Parens
 pub mod Reserved
 pub mod Tags
 pub mod Bases
+pub mod FirstWord
+pub mod KeyForms
+pub mod Pairs
+pub mod Operands
+pub mod FinalForms
+pub mod FormLaws
+pub mod DimForms
+pub mod MemberForms
+pub mod Maybe
+pub mod IterForms

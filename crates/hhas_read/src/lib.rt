@@ -1,15 +1,20 @@
 //! Reads texts, exactly: each function accepts what its rule of the grammar spells and else stops at the first token
 //! that leads to no word of the rule. So far it has the single tokens, fixed tokens, labels, words with a
-//! colon and what follows them, words of operators and queries, bases, lists of locals and parameters;
-//! types, codes, bodies, classes and whole texts are still to come.
+//! colon and what follows them, words of operators, queries and kinds of cells, member sequences, the locals of an
+//! iterator, lists of locals and parameters; types, codes, bodies, classes and whole texts are still to come.
 #![tactic(auto)]
 
+mod cell_kinds;
+mod finals;
 mod fixed;
+mod iterators;
+mod keys;
 mod labels;
 mod lists;
 mod members;
 mod named_words;
 mod reader;
+mod sequences;
 mod singles;
 mod tagged;
 
@@ -18,3 +23,5 @@ pub use reader::{Piece, Reader, Stop};
 
 #[cfg(test)]
 mod tests;
+#[cfg(test)]
+mod tests_members;

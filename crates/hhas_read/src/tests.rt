@@ -6,7 +6,7 @@ use std::process::Abort;
 use std::test::Fail;
 
 /// The answer is an error, and where the next token begins.
-fn stops_at<T: Drop>(rt: &impl Abort, answer: Result<T, Stop>, reader: &Reader, place: u32) {
+pub fn stops_at<T: Drop>(rt: &impl Abort, answer: Result<T, Stop>, reader: &Reader, place: u32) {
     let stop = match answer {
         Ok(_) => None,
         Err(stop) => Some(stop),
