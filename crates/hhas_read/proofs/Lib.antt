@@ -9,3 +9,4 @@ pub mod Parens
 pub mod Reserved
 pub mod Tags
 pub mod Bases
+pub mod Values

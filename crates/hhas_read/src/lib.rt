@@ -10,6 +10,7 @@ mod lists;
 mod members;
 mod named_words;
 mod reader;
+mod scalars;
 mod singles;
 mod tagged;
 
@@ -18,3 +19,5 @@ pub use reader::{Piece, Reader, Stop};
 
 #[cfg(test)]
 mod tests;
+#[cfg(test)]
+mod type_tests;
