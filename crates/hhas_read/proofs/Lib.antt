@@ -10,3 +10,9 @@ pub mod Reserved
 pub mod Tags
 pub mod Bases
 pub mod Values
+pub mod Following
+pub mod Heads
+pub mod Short
+pub mod Objects
+pub mod Rising
+pub mod OneAtom

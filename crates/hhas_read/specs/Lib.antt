@@ -1,2 +1,4 @@
 pub mod Pieces
 pub mod Reading
+pub mod Written
+pub mod Atoms

@@ -4,6 +4,7 @@
 //! types, codes, bodies, classes and whole texts are still to come.
 #![tactic(auto)]
 
+mod atoms;
 mod fixed;
 mod labels;
 mod lists;
@@ -14,6 +15,7 @@ mod scalars;
 mod singles;
 mod tagged;
 
+pub use atoms::{Atom, Head};
 pub use labels::is_reserved;
 pub use reader::{Piece, Reader, Stop};
 

@@ -1,5 +1,6 @@
 use super::*;
 use hack_values::Cell;
+use std::alloc::Global;
 use std::process::Abort;
 use std::test::Fail;
 
@@ -45,4 +46,58 @@ fn values_of_properties_are_read(rt: HostRuntime) {
     assert!(&rt; matches!(reader.initial(alloc), Ok(Cell::Int(4))));
     let answer = reader.initial(alloc);
     refused(&rt, answer, &reader, 18);
+}
+
+/// The atom at the front of the text is read, and the next token begins there; else the atom is refused there.
+fn an_atom(rt: &impl Abort, alloc: Global, mut reader: Reader, is_read: bool, place: u32) {
+    match reader.atom(alloc) {
+        Ok(_) => assert!(rt; is_read),
+        Err(stop) => {
+            assert!(rt; !is_read);
+            assert_eq!(rt; stop, Stop::Syntax);
+        }
+    }
+    assert_eq!(rt; reader.place(), place);
+}
+
+#[test]
+fn atoms_are_read(rt: HostRuntime) {
+    let alloc = rt.alloc();
+    an_atom(&rt, alloc, Reader::new(b"Null;"), true, 4);
+    an_atom(&rt, alloc, Reader::new(b"Int|Str"), true, 3);
+    an_atom(&rt, alloc, Reader::new(b"Int=-5 |Str"), true, 7);
+    an_atom(&rt, alloc, Reader::new(b"Str=\"ab\","), true, 8);
+    an_atom(
+        &rt,
+        alloc,
+        Reader::new(b"Str=\"12345678901234567890123456789012\";"),
+        true,
+        38,
+    );
+    an_atom(&rt, alloc, Reader::new(b"Obj<=C>"), true, 6);
+    an_atom(&rt, alloc, Reader::new(b"Obj = C"), true, 7);
+    an_atom(&rt, alloc, Reader::new(b"Keyset Vec"), true, 7);
+}
+
+#[test]
+fn other_atoms_stop_where_they_begin_to_differ(rt: HostRuntime) {
+    let alloc = rt.alloc();
+    an_atom(&rt, alloc, Reader::new(b"Uninit"), false, 0);
+    an_atom(&rt, alloc, Reader::new(b"Cell"), false, 0);
+    an_atom(&rt, alloc, Reader::new(b"vec"), false, 0);
+    an_atom(&rt, alloc, Reader::new(b"Null=5"), false, 4);
+    an_atom(&rt, alloc, Reader::new(b"Int="), false, 4);
+    an_atom(&rt, alloc, Reader::new(b"Int=x"), false, 4);
+    an_atom(&rt, alloc, Reader::new(b"Int<=5"), false, 3);
+    an_atom(&rt, alloc, Reader::new(b"Int=5=6"), false, 5);
+    an_atom(
+        &rt,
+        alloc,
+        Reader::new(b"Str=\"123456789012345678901234567890123\";"),
+        false,
+        4,
+    );
+    an_atom(&rt, alloc, Reader::new(b"Obj=\"C\""), false, 4);
+    an_atom(&rt, alloc, Reader::new(b"Obj<C"), false, 3);
+    an_atom(&rt, alloc, Reader::new(b"Vec<Int>"), false, 3);
 }
