@@ -16,3 +16,5 @@ pub mod Short
 pub mod Objects
 pub mod Rising
 pub mod OneAtom
+pub mod Lines
+pub mod LeafWords

@@ -1,11 +1,13 @@
 -- Elements with bars between them, each of a line of its own, the lines ascending.
-use Rattle.std.proofs.Common.{◌≡◌, ◌≤◌, ℕ, suc, Bool, true, false, ◌&&◌, List, [], ◌∷◌, ◌++◌, map, refl, sym, ap, ◌∙◌, append_assoc, subst, inl, inr}
+use Rattle.std.proofs.Common.{Err, ◌≡◌, ℕ, suc, Bool, true, false, ◌&&◌, List, [], ◌∷◌, ◌++◌, map, refl, sym, ap, ◌∙◌, append_assoc, subst, inl, inr}
 use Rattle.std.specs.List.{list_all}
 use Rattle.hhas_lex.specs.Tokens.{Token, Mark, front}
-use Rattle.hhbc_repo.specs.Languages.{Lang, Says, Behind, Either, Separated}
-use Rattle.hhbc_repo.specs.TypeSyntax.{Ascend}
-use Rattle.hhas_read.specs.Reading.{Placed, Follow, StuckAt, Taken, next}
-use Rattle.hhas_read.proofs.Resuming.{Resumes, past_none}
+use Rattle.hhbc_repo.specs.Languages.{Lang}
+use Rattle.hhas_read.specs.Lists as lists
+use Rattle.hhas_read.specs.Reading.{Placed, Past, Follow, StuckAt, Reads, Taken, next}
+use Rattle.hhas_read.specs.declared.reader.Stop.{Stop}
+use Rattle.hhas_read.specs.declared.reader.Stop.TheVariants.{Syntax, NoMemory}
+use Rattle.hhas_read.proofs.Resuming.{Resumes, past_none, past_on, resumes_same, resumes_then}
 use Rattle.hhas_read.proofs.Reserved.{never_both}
 
 both_true : (a b : Bool) → a ≡ true → b ≡ true → a && b ≡ true
@@ -24,16 +26,14 @@ abbrev pub Same : {V : Type 0} → Follow → Lang V → Type 0
 Same {V} F A = (a b x y : List Token) (v w : V) → A a v → A b w → F (front x) ≡ true → F (front y) ≡ true → a ++ x ≡ b ++ y → (a ≡ b) × (v ≡ w)
 
 module _ {V W : Type 0} (g : V → W) (A : Lang W) (line : W → ℕ) (ok : W → Bool) where
-  -- an element that may stand from a line on
   abbrev pub Elem : ℕ → Lang V
-  Elem least ts v = A ts (g v) × (least ≤ line (g v)) × (ok (g v) ≡ true)
+  Elem = lists.Elem g A line ok
 
   abbrev pub Rising : ℕ → Lang (List V)
-  Rising least ts vs = Separated 124 A ts (map g vs) × Ascend least (map line (map g vs)) × (list_all ok (map g vs) ≡ true)
+  Rising = lists.Rising g A line ok
 
-  -- what stands behind an element
   abbrev pub More : ℕ → Lang (List V)
-  More least = Either (Says [] []) (Behind (Mark 124 ∷ []) (Rising least))
+  More = lists.More g A line ok
 
   module _ (F G : Follow) (wider : (t : Token) → F t ≡ true → G t ≡ true) (bar : G (Mark 124) ≡ true) where
     -- the first element of a list
@@ -119,3 +119,36 @@ module _ {V W : Type 0} (g : V → W) (A : Lang W) (line : W → ℕ) (ok : W �
         | inr r ↦ let one = first_of least r.rest v x r.word o in none (ap front (sym d) ∙ ap front (ap (λ z. z ++ x) r.tokens)) one.0 one.1 one.4
       ];
     }
+
+    -- ---- the elements so far, and one more
+
+    pub to_more : (base least : ℕ) (start old mid : Placed) (out : List V) (v : V) → Same G (Elem least)
+        → (inv : (used : List Token) × Past used start old × Resumes F (Rising base) used (Rising least) (λ ys. out ++ ys) old.tokens)
+        → Taken G (Elem least) old mid v
+        → (used : List Token) × Past used start mid × Resumes F (Rising base) used (More (suc (line (g v)))) (λ us. out ++ (v ∷ us)) mid.tokens
+    to_more base least start old mid out v same inv t = (
+      inv.0 ++ t.used,
+      past_on inv.1 t.past,
+      resumes_then F (Rising base) (Rising least) (More (suc (line (g v)))) inv.0 t.used old.tokens mid.tokens (λ ys. out ++ ys) (λ us. v ∷ us) inv.2
+          (first_resumes least old mid v same t) t.past.tokens,
+    )
+
+    -- and the bar behind it
+    pub one_more : F (Mark 124) ≡ false → (base least : ℕ) (start mid new : Placed) (out more : List V) (v : V)
+        → (far : (used : List Token) × Past used start mid × Resumes F (Rising base) used (More least) (λ us. out ++ (v ∷ us)) mid.tokens)
+        → next mid ≡ Mark 124 → Past (next mid ∷ []) mid new → more ≡ out ++ v ∷ []
+        → (used : List Token) × Past used start new × Resumes F (Rising base) used (Rising least) (λ ys. more ++ ys) new.tokens
+    one_more no_bar base least start mid new out more v far at past pushed =
+        let on : Past (Mark 124 ∷ []) mid new = subst (λ t. Past (t ∷ []) mid new) at past in
+        let all : Resumes F (Rising base) (far.0 ++ (Mark 124 ∷ [])) (Rising least) (λ ys. out ++ (v ∷ ys)) new.tokens =
+        resumes_then F (Rising base) (More least) (Rising least) far.0 (Mark 124 ∷ []) mid.tokens new.tokens (λ us. out ++ (v ∷ us)) (λ us. us) far.2
+        (more_goes_on no_bar least new.tokens) on.tokens in (
+          far.0 ++ (Mark 124 ∷ []),
+          past_on far.1 on,
+          resumes_same F (Rising base) (Rising least) (far.0 ++ (Mark 124 ∷ [])) new.tokens (λ ys. out ++ (v ∷ ys)) (λ ys. more ++ ys)
+              (λ ys. sym (ap (λ l. l ++ ys) pushed ∙ append_assoc out (v ∷ []) ys)) all,
+        )
+
+    pub first_stop : (least : ℕ) (old new : Placed) (e : Stop) → Reads G (Elem least) old (Err e) new → Reads F (Rising least) old (Err e) new
+    first_stop least old new Syntax s = first_stuck least old new s
+    first_stop least old new NoMemory s = tt

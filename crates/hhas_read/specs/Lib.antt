@@ -2,3 +2,5 @@ pub mod Pieces
 pub mod Reading
 pub mod Written
 pub mod Atoms
+pub mod Lists
+pub mod LeafSyntax

@@ -169,7 +169,7 @@ impl<'a> Reader<'a> {
     }
 
     /// What stands behind the head.
-    fn behind_head(&mut self, alloc: Global, head: Head) -> Result<Atom, Stop>
+    pub(crate) fn behind_head(&mut self, alloc: Global, head: Head) -> Result<Atom, Stop>
         ensures { Reads ends_atom (Tail head) self.old result self.new }
     {
         match head {

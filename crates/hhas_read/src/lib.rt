@@ -7,6 +7,7 @@
 mod atoms;
 mod fixed;
 mod labels;
+mod leaves;
 mod lists;
 mod members;
 mod named_words;
@@ -17,6 +18,7 @@ mod tagged;
 
 pub use atoms::{Atom, Head};
 pub use labels::is_reserved;
+pub use leaves::Written;
 pub use reader::{Piece, Reader, Stop};
 
 #[cfg(test)]

@@ -101,3 +101,64 @@ fn other_atoms_stop_where_they_begin_to_differ(rt: HostRuntime) {
     an_atom(&rt, alloc, Reader::new(b"Obj<C"), false, 3);
     an_atom(&rt, alloc, Reader::new(b"Vec<Int>"), false, 3);
 }
+
+/// A leaf, or a key, at the front of the text is read or refused, and the next token begins there.
+fn a_leaf(
+    rt: &impl Abort,
+    alloc: Global,
+    mut reader: Reader,
+    is_key: bool,
+    is_read: bool,
+    place: u32,
+) {
+    let answer = if is_key {
+        reader.key_type(alloc)
+    } else {
+        reader.leaf(alloc)
+    };
+    match answer {
+        Ok(_) => assert!(rt; is_read),
+        Err(stop) => {
+            assert!(rt; !is_read);
+            assert_eq!(rt; stop, Stop::Syntax);
+        }
+    }
+    assert_eq!(rt; reader.place(), place);
+}
+
+#[test]
+fn leaves_are_read(rt: HostRuntime) {
+    let alloc = rt.alloc();
+    a_leaf(&rt, alloc, Reader::new(b"Never>"), false, true, 5);
+    a_leaf(&rt, alloc, Reader::new(b"Cell,"), false, true, 4);
+    a_leaf(
+        &rt,
+        alloc,
+        Reader::new(b"Null|Bool|Int=5|Str>"),
+        false,
+        true,
+        19,
+    );
+    a_leaf(&rt, alloc, Reader::new(b"Vec|Keyset>"), false, true, 10);
+    a_leaf(&rt, alloc, Reader::new(b"Int|Str,"), true, true, 7);
+    a_leaf(&rt, alloc, Reader::new(b"Int=5|Str=\"a\">"), true, true, 13);
+    a_leaf(&rt, alloc, Reader::new(b"Never,"), true, true, 5);
+}
+
+#[test]
+fn other_leaves_stop_where_they_begin_to_differ(rt: HostRuntime) {
+    let alloc = rt.alloc();
+    a_leaf(&rt, alloc, Reader::new(b"Uninit|Int"), false, false, 0);
+    a_leaf(&rt, alloc, Reader::new(b"Int|Null"), false, false, 4);
+    a_leaf(&rt, alloc, Reader::new(b"Int|Int=5"), false, false, 4);
+    a_leaf(&rt, alloc, Reader::new(b"False|True"), false, false, 6);
+    a_leaf(&rt, alloc, Reader::new(b"Keyset|Int"), false, false, 6);
+    a_leaf(&rt, alloc, Reader::new(b"Vec<Int>"), false, false, 3);
+    a_leaf(&rt, alloc, Reader::new(b"Null|Never"), false, false, 5);
+    a_leaf(&rt, alloc, Reader::new(b"Cell|Int"), false, false, 4);
+    a_leaf(&rt, alloc, Reader::new(b"Int|"), false, false, 4);
+    a_leaf(&rt, alloc, Reader::new(b"Cell"), true, false, 0);
+    a_leaf(&rt, alloc, Reader::new(b"Bool"), true, false, 0);
+    a_leaf(&rt, alloc, Reader::new(b"Str|Int"), true, false, 3);
+    a_leaf(&rt, alloc, Reader::new(b"Int|Obj"), true, false, 4);
+}
