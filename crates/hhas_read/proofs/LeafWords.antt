@@ -22,7 +22,7 @@ use Rattle.hhas_read.proofs.Said.{same_word}
 pub apart : (a b : List ℕ) → bytes_eq a b ≡ false → Word a ≡ Word b → ⊥
 apart a b f e = never_both (sym ((bytes_eq-Decides a b).1 (same_word a b e)) ∙ f)
 
-never_head : (h : Head) → Word (head_name h) ≡ Word (codes "Never") → ⊥
+pub never_head : (h : Head) → Word (head_name h) ≡ Word (codes "Never") → ⊥
 never_head heads.Null = apart (codes "Null") (codes "Never") refl
 never_head heads.False = apart (codes "False") (codes "Never") refl
 never_head heads.True = apart (codes "True") (codes "Never") refl
@@ -34,7 +34,7 @@ never_head heads.Vec = apart (codes "Vec") (codes "Never") refl
 never_head heads.Dict = apart (codes "Dict") (codes "Never") refl
 never_head heads.Keyset = apart (codes "Keyset") (codes "Never") refl
 
-cell_head : (h : Head) → Word (head_name h) ≡ Word (codes "Cell") → ⊥
+pub cell_head : (h : Head) → Word (head_name h) ≡ Word (codes "Cell") → ⊥
 cell_head heads.Null = apart (codes "Null") (codes "Cell") refl
 cell_head heads.False = apart (codes "False") (codes "Cell") refl
 cell_head heads.True = apart (codes "True") (codes "Cell") refl
@@ -47,7 +47,7 @@ cell_head heads.Dict = apart (codes "Dict") (codes "Cell") refl
 cell_head heads.Keyset = apart (codes "Keyset") (codes "Cell") refl
 
 -- atoms begin with the word of one
-first_head : (w : List Token) (xs : List Atom) (x : List Token) → Separated 124 AnAtom w (map atom_of xs) → (h : Head) × (front (w ++ x) ≡ Word (head_name h))
+pub first_head : (w : List Token) (xs : List Atom) (x : List Token) → Separated 124 AnAtom w (map atom_of xs) → (h : Head) × (front (w ++ x) ≡ Word (head_name h))
 first_head w [] x n = absurd n
 first_head w (a ∷ []) x n = let s = split w a n in (head_of a, ap front (ap (λ l. l ++ x) s.1))
 first_head w (a ∷ b ∷ bs) x n = let s = split n.0 a n.2 in (head_of a, ap front (ap (λ l. l ++ x) (n.4 ∙ ap (λ l. l ++ Mark 124 ∷ n.1) s.1)))

@@ -18,3 +18,5 @@ pub mod Rising
 pub mod OneAtom
 pub mod Lines
 pub mod LeafWords
+pub mod Apart
+pub mod Closing

@@ -1,6 +1,7 @@
 -- How the reader's leaves and keys stand for those of the grammar.
-use Rattle.std.specs.Prelude.{ℕ, Bool, true, false, List, map}
-use Rattle.hhbc_repo.specs.Languages.{Lang}
+use Rattle.std.specs.Prelude.{ℕ, Bool, true, false, List, [], ◌∷◌, map}
+use Rattle.hhas_lex.specs.Tokens.{Mark}
+use Rattle.hhbc_repo.specs.Languages.{Lang, Both, Ended}
 use Rattle.hhbc_repo.specs.TypeSyntax as grammar
 use Rattle.hhbc_repo.specs.TypeSyntax.{AnAtom, ALeaf, AKeyType, line, is_key_atom}
 use Rattle.hhas_read.specs.declared.atoms.Atom.{Atom}
@@ -55,3 +56,14 @@ AtomFrom keys least = Elem atom_of AnAtom line (among keys) least
 
 abbrev pub AtomsFrom : Bool → ℕ → Lang (List Atom)
 AtomsFrom keys least = Rising atom_of AnAtom line (among keys) least
+
+-- ---- in brackets
+
+abbrev pub LeafTo : Lang Written
+LeafTo = Ended ALeafOf (Mark 62 ∷ [])
+
+abbrev pub KeyTo : ℕ → Lang Written
+KeyTo end = Ended AKeyOf (Mark end ∷ [])
+
+abbrev pub KeyAndLeaf : Lang (Written × Written)
+KeyAndLeaf = Both (KeyTo 44) LeafTo

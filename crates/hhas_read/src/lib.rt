@@ -5,6 +5,7 @@
 #![tactic(auto)]
 
 mod atoms;
+mod containers;
 mod fixed;
 mod labels;
 mod leaves;

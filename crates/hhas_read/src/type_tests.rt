@@ -162,3 +162,23 @@ fn other_leaves_stop_where_they_begin_to_differ(rt: HostRuntime) {
     a_leaf(&rt, alloc, Reader::new(b"Str|Int"), true, false, 3);
     a_leaf(&rt, alloc, Reader::new(b"Int|Obj"), true, false, 4);
 }
+
+#[test]
+fn brackets_are_read(rt: HostRuntime) {
+    let alloc = rt.alloc();
+    let mut reader = Reader::new(b"Int|Str=\"a\"> Never> Int|Str,Cell> Int>");
+    assert!(&rt; reader.closed_leaf(alloc).is_ok());
+    assert_eq!(&rt; reader.place(), 13);
+    assert!(&rt; reader.key_to(alloc, b'>').is_ok());
+    assert_eq!(&rt; reader.place(), 20);
+    assert!(&rt; reader.key_and_leaf(alloc).is_ok());
+    assert_eq!(&rt; reader.place(), 34);
+    let answer = reader.key_and_leaf(alloc);
+    refused(&rt, answer, &reader, 37);
+    let mut reader = Reader::new(b"Int,Int|Uninit>");
+    let answer = reader.key_and_leaf(alloc);
+    refused(&rt, answer, &reader, 8);
+    let mut reader = Reader::new(b"Int,");
+    let answer = reader.closed_leaf(alloc);
+    refused(&rt, answer, &reader, 3);
+}
