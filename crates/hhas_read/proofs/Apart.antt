@@ -1,14 +1,14 @@
 -- Leaves and keys stand apart from what follows them, and each has one value.
-use Rattle.std.proofs.Common.{◌≡◌, true, false, List, [], ◌∷◌, ◌++◌, map, refl, sym, ap, ◌∙◌, append_assoc, codes}
+use Rattle.std.proofs.Common.{◌≡◌, ℕ, ◌&&◌, true, false, List, [], ◌∷◌, ◌++◌, map, refl, sym, ap, ◌∙◌, append_assoc, codes}
 use Rattle.hhas_lex.specs.Tokens.{Token, Word, Mark, front}
 use Rattle.hhbc_repo.specs.Languages.{Lang, Separated}
 use Rattle.hhbc_repo.specs.TypeSyntax.{AnAtom}
 use Rattle.hhas_read.specs.declared.atoms.Atom.{Atom}
 use Rattle.hhas_read.specs.declared.leaves.Written.TheVariants as written
-use Rattle.hhas_read.specs.LeafSyntax.{ALeafOf, AKeyOf}
-use Rattle.hhas_read.specs.Reading.{Follow}
+use Rattle.hhas_read.specs.LeafSyntax.{ALeafOf, AKeyOf, KeyAndLeaf, KeyTo, LeafTo}
+use Rattle.hhas_read.specs.Reading.{Follow, any, may_stand}
 use Rattle.hhas_read.specs.Written.{atom_of, ends_atom, ends_type}
-use Rattle.hhas_read.proofs.Joining.{Lawful}
+use Rattle.hhas_read.proofs.Joining.{Lawful, both_lawful, ended_lawful}
 use Rattle.hhas_read.proofs.LeafWords.{apart, cell_head, first_head, never_head}
 use Rattle.hhas_read.proofs.Lines.{wider}
 use Rattle.hhas_read.proofs.OneAtom.{atom_same}
@@ -89,3 +89,14 @@ leaf_lawful = record { same = leaf_same; some = record { more = Word (codes "Nev
 
 pub key_lawful : Lawful ends_type AKeyOf
 key_lawful = record { same = key_same; some = record { more = Word (codes "Never") ∷ []; value = written.Never; word = refl; proper = refl } }
+
+-- ---- in brackets
+
+pub to_leaf : Lawful any LeafTo
+to_leaf = ended_lawful any ends_type ALeafOf (Mark 62) [] refl refl leaf_lawful
+
+pub to_key : (end : ℕ) → ends_type (Mark end) ≡ true → may_stand (Mark end) ≡ true → Lawful any (KeyTo end)
+to_key end follows stands = ended_lawful any ends_type AKeyOf (Mark end) [] follows (ap (λ c. c && true) stands) key_lawful
+
+pub to_both : Lawful any KeyAndLeaf
+to_both = both_lawful any any (KeyTo 44) LeafTo (λ b v x n o. refl) (to_key 44 refl refl) to_leaf

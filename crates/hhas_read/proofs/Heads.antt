@@ -88,7 +88,7 @@ split w atoms.Keyset n = ([], n.0, (refl, refl))
 spelled : (h : Head) (ts rest : List Token) (a b : Atom) → a ≡ b → ts ≡ rest → AnAtomOf (Word (head_name h) ∷ rest) b → AnAtomOf (Word (head_name h) ∷ ts) a
 spelled h ts rest a b is e n = subst (λ z. AnAtomOf (Word (head_name h) ∷ ts) z) (sym is) (subst (λ z. AnAtomOf (Word (head_name h) ∷ z) b) (sym e) n)
 
-joined : (h : Head) (ts : List Token) (a : Atom) → Tail h ts a → AnAtomOf (Word (head_name h) ∷ ts) a
+pub joined : (h : Head) (ts : List Token) (a : Atom) → Tail h ts a → AnAtomOf (Word (head_name h) ∷ ts) a
 joined heads.Null ts a m = spelled heads.Null ts [] a atoms.Null m.1 m.0 (refl, tt)
 joined heads.False ts a m = spelled heads.False ts [] a atoms.False m.1 m.0 (refl, tt)
 joined heads.True ts a m = spelled heads.True ts [] a atoms.True m.1 m.0 (refl, tt)

@@ -20,3 +20,4 @@ pub mod Lines
 pub mod LeafWords
 pub mod Apart
 pub mod Closing
+pub mod TypeHeads

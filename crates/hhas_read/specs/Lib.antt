@@ -4,3 +4,4 @@ pub mod Written
 pub mod Atoms
 pub mod Lists
 pub mod LeafSyntax
+pub mod TypeWords

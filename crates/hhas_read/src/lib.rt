@@ -1,7 +1,8 @@
 //! Reads texts, exactly: each function accepts what its rule of the grammar spells and else stops at the first token
 //! that leads to no word of the rule. So far it has the single tokens, fixed tokens, labels, words with a
-//! colon and what follows them, words of operators and queries, bases, lists of locals and parameters;
-//! types, codes, bodies, classes and whole texts are still to come.
+//! colon and what follows them, words of operators and queries, bases, lists of locals and parameters,
+//! values of constants and properties, atoms of types, leaves and keys;
+//! whole types, codes, bodies, classes and whole texts are still to come.
 #![tactic(auto)]
 
 mod atoms;
@@ -16,11 +17,13 @@ mod reader;
 mod scalars;
 mod singles;
 mod tagged;
+mod types;
 
 pub use atoms::{Atom, Head};
 pub use labels::is_reserved;
 pub use leaves::Written;
 pub use reader::{Piece, Reader, Stop};
+pub use types::TypeAtom;
 
 #[cfg(test)]
 mod tests;

@@ -182,3 +182,40 @@ fn brackets_are_read(rt: HostRuntime) {
     let answer = reader.closed_leaf(alloc);
     refused(&rt, answer, &reader, 3);
 }
+
+/// An atom of a type at the front of the text is read or refused, and the next token begins there.
+fn a_type_atom(rt: &impl Abort, alloc: Global, mut reader: Reader, is_read: bool, place: u32) {
+    match reader.type_atom(alloc) {
+        Ok(_) => assert!(rt; is_read),
+        Err(stop) => {
+            assert!(rt; !is_read);
+            assert_eq!(rt; stop, Stop::Syntax);
+        }
+    }
+    assert_eq!(rt; reader.place(), place);
+}
+
+#[test]
+fn atoms_of_types_are_read(rt: HostRuntime) {
+    let alloc = rt.alloc();
+    a_type_atom(&rt, alloc, Reader::new(b"Uninit|"), true, 6);
+    a_type_atom(&rt, alloc, Reader::new(b"Vec<Null|Int>|"), true, 13);
+    a_type_atom(&rt, alloc, Reader::new(b"Dict<Int|Str,Cell>|"), true, 18);
+    a_type_atom(&rt, alloc, Reader::new(b"Keyset<Str=\"a\">;"), true, 15);
+    a_type_atom(&rt, alloc, Reader::new(b"Obj<=C|"), true, 6);
+    a_type_atom(&rt, alloc, Reader::new(b"Dict|"), true, 4);
+}
+
+#[test]
+fn other_atoms_of_types_stop_where_they_begin_to_differ(rt: HostRuntime) {
+    let alloc = rt.alloc();
+    a_type_atom(&rt, alloc, Reader::new(b"Never"), false, 0);
+    a_type_atom(&rt, alloc, Reader::new(b"Uninit=5"), false, 6);
+    a_type_atom(&rt, alloc, Reader::new(b"Int<Int>"), false, 3);
+    a_type_atom(&rt, alloc, Reader::new(b"Vec<Uninit>"), false, 4);
+    a_type_atom(&rt, alloc, Reader::new(b"Vec<Vec<Int>>"), false, 7);
+    a_type_atom(&rt, alloc, Reader::new(b"Vec<Int"), false, 7);
+    a_type_atom(&rt, alloc, Reader::new(b"Dict<Int>"), false, 8);
+    a_type_atom(&rt, alloc, Reader::new(b"Dict<Bool,Int>"), false, 5);
+    a_type_atom(&rt, alloc, Reader::new(b"Keyset<Int,Int>"), false, 10);
+}
