@@ -19,3 +19,15 @@ pub mod DimForms
 pub mod MemberForms
 pub mod Maybe
 pub mod IterForms
+pub mod Values
+pub mod Following
+pub mod Heads
+pub mod Short
+pub mod Objects
+pub mod Rising
+pub mod OneAtom
+pub mod Lines
+pub mod LeafWords
+pub mod Apart
+pub mod Closing
+pub mod TypeHeads

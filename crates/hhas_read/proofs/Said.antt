@@ -74,6 +74,17 @@ not_directive pieces.LessEqual t s n w e = absurd (cc (s, e))
 not_directive pieces.End t s n w e = absurd (cc (s, e))
 not_directive pieces.Bad t s n w e = absurd (cc (s, e))
 
+pub not_less_equal : (p : Piece) (t : Token) → Says p t → (p ≡ pieces.LessEqual → ⊥) → t ≡ tokens.LessEqual → ⊥
+not_less_equal (pieces.Directive b) t s n e = absurd (cc (s, e))
+not_less_equal (pieces.Word b) t s n e = absurd (cc (s, e))
+not_less_equal (pieces.Local b) t s n e = absurd (cc (s, e))
+not_less_equal (pieces.Integer b) t s n e = absurd (cc (s, e))
+not_less_equal pieces.Str t s n e = absurd (cc (s.1, e))
+not_less_equal (pieces.Mark b) t s n e = absurd (cc (s, e))
+not_less_equal pieces.LessEqual t s n e = n refl
+not_less_equal pieces.End t s n e = absurd (cc (s, e))
+not_less_equal pieces.Bad t s n e = absurd (cc (s, e))
+
 -- ---- a token has one value
 
 pub same_integer : (i j : ℤ) → tokens.Integer i ≡ tokens.Integer j → i ≡ j

@@ -2,3 +2,8 @@ pub mod Pieces
 pub mod Reading
 pub mod Sequences
 pub mod OneWord
+pub mod Written
+pub mod Atoms
+pub mod Lists
+pub mod LeafSyntax
+pub mod TypeWords

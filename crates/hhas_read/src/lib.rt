@@ -1,27 +1,38 @@
 //! Reads texts, exactly: each function accepts what its rule of the grammar spells and else stops at the first token
 //! that leads to no word of the rule. So far it has the single tokens, fixed tokens, labels, words with a
 //! colon and what follows them, words of operators, queries and kinds of cells, member sequences, the locals of an
-//! iterator, lists of locals and parameters; types, codes, bodies, classes and whole texts are still to come.
+//! iterator, lists of locals and parameters, values of constants and properties, atoms of types, leaves and keys;
+//! whole types, codes, bodies, classes and whole texts are still to come.
 #![tactic(auto)]
 
+mod atoms;
 mod cell_kinds;
+mod containers;
 mod finals;
 mod fixed;
 mod iterators;
 mod keys;
 mod labels;
+mod leaves;
 mod lists;
 mod members;
 mod named_words;
 mod reader;
+mod scalars;
 mod sequences;
 mod singles;
 mod tagged;
+mod types;
 
+pub use atoms::{Atom, Head};
 pub use labels::is_reserved;
+pub use leaves::Written;
 pub use reader::{Piece, Reader, Stop};
+pub use types::TypeAtom;
 
 #[cfg(test)]
 mod tests;
 #[cfg(test)]
 mod tests_members;
+#[cfg(test)]
+mod type_tests;
