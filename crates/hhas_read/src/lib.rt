@@ -1,10 +1,11 @@
 //! Reads texts, exactly: each function accepts what its rule of the grammar spells and else stops at the first token
 //! that leads to no word of the rule. So far it has the single tokens, fixed tokens, labels, words with a
 //! colon and what follows them, words of operators, queries and kinds of cells, member sequences, the locals of an
-//! iterator, lists of locals and parameters, values of constants and properties, atoms of types, leaves and keys;
+//! iterator, the arms of switches on ints, lists of locals and parameters, values of constants and properties, atoms of types, leaves and keys;
 //! whole types, codes, bodies, classes and whole texts are still to come.
 #![tactic(auto)]
 
+mod arms;
 mod atoms;
 mod cell_kinds;
 mod containers;
@@ -32,6 +33,8 @@ pub use types::TypeAtom;
 
 #[cfg(test)]
 mod tests;
+#[cfg(test)]
+mod tests_arms;
 #[cfg(test)]
 mod tests_members;
 #[cfg(test)]

@@ -1,0 +1,44 @@
+use super::tests::stops_at;
+use super::*;
+use std::alloc::Global;
+use std::process::Abort;
+
+fn no_arms(rt: &impl Abort, alloc: Global, text: &[u8], place: u32) {
+    assert!(rt; text.len() < 100);
+    let mut reader = Reader::new(text);
+    let answer = reader.arms(alloc);
+    stops_at(rt, answer, &reader, place);
+}
+
+#[test]
+fn arms_are_read(rt: HostRuntime) {
+    let alloc = rt.alloc();
+    let mut reader = Reader::new(b"<L0> < L1 L2\nL1 > <default>");
+    let Ok(one) = reader.arms(alloc) else {
+        panic!(&rt; "not read");
+    };
+    assert_eq!(&rt; one.as_slice().len(), 1);
+    let Ok(several) = reader.arms(alloc) else {
+        panic!(&rt; "not read");
+    };
+    assert_eq!(&rt; several.as_slice().len(), 3);
+    for arm in several.as_slice() {
+        assert!(&rt; arm.text.is_none());
+    }
+    assert!(&rt; several.as_slice()[1].target.bytes() == b"L2".as_slice());
+    assert!(&rt; reader.arms(alloc).is_ok());
+    assert_eq!(&rt; reader.place(), 27);
+}
+
+#[test]
+fn other_arms_stop_where_they_go_wrong(rt: HostRuntime) {
+    let alloc = rt.alloc();
+    no_arms(&rt, alloc, b"L0>", 0);
+    no_arms(&rt, alloc, b"<>", 1);
+    no_arms(&rt, alloc, b"<L0, L1>", 3);
+    no_arms(&rt, alloc, b"<L0 L1", 6);
+    no_arms(&rt, alloc, b"<L0 Nop>", 4);
+    no_arms(&rt, alloc, b"<L0 \"a\">", 4);
+    no_arms(&rt, alloc, b"<L0 SetM>", 4);
+    no_arms(&rt, alloc, b"<default:L0>", 8);
+}
