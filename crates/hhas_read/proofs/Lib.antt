@@ -33,3 +33,4 @@ pub mod Closing
 pub mod TypeHeads
 pub mod Runs
 pub mod ArmForms
+pub mod StringArmForms

@@ -3,13 +3,13 @@
 ghost use Rattle.std.specs.Prelude.{◌≡◌, true, [], ◌∷◌};
 ghost use Rattle.hhas_lex.specs.Spelling.{is_proper};
 ghost use Rattle.hhas_lex.specs.Tokens.{Mark};
-ghost use Rattle.hhbc_repo.specs.CodeSyntax.{AnArm};
-ghost use Rattle.hhbc_repo.specs.Languages.{Behind};
-ghost use Rattle.hhas_read.specs.Arms.{ArmsToEnd};
+ghost use Rattle.hhbc_repo.specs.CodeSyntax.{ALabel, AnArm, AStringArm};
+ghost use Rattle.hhbc_repo.specs.Languages.{Behind, Ended};
+ghost use Rattle.hhas_read.specs.Arms.{ArmsToEnd, StringArmsToEnd, TargetTo};
 ghost use Rattle.hhas_read.specs.Reading.{Reads, any};
 
 use crate::reader::{Reader, Stop};
-use hack_values::Seq;
+use hack_values::{Seq, Text};
 use hhbc_repo::ArmParts;
 use std::alloc::Global;
 
@@ -48,5 +48,72 @@ impl<'a> Reader<'a> {
         }
         self.skip();
         self.arms_to_end(alloc)
+    }
+
+    /// A label, and the mark behind it.
+    fn label_to(&mut self, alloc: Global, end: u8) -> Result<Text, Stop>
+        requires { is_proper (Mark end) ≡ true }
+        ensures { Reads any (Ended ALabel (Mark end ∷ [])) self.old result self.new }
+    {
+        match self.label(alloc) {
+            Ok(label) => {
+                if !self.is_mark(end) {
+                    return Err(Stop::Syntax);
+                }
+                self.skip();
+                Ok(label)
+            }
+            Err(stop) => Err(stop),
+        }
+    }
+
+    /// A colon, a label and the mark behind it.
+    fn target_to(&mut self, alloc: Global, end: u8) -> Result<Text, Stop>
+        requires { is_proper (Mark end) ≡ true }
+        ensures { Reads any (TargetTo end) self.old result self.new }
+    {
+        if !self.is_mark(b':') {
+            return Err(Stop::Syntax);
+        }
+        self.skip();
+        self.label_to(alloc, end)
+    }
+
+    /// An arm of a switch on strings.
+    fn string_arm(&mut self, alloc: Global) -> Result<ArmParts, Stop>
+        ensures { Reads any AStringArm self.old result self.new }
+    {
+        let text = self.string(alloc)?;
+        let target = self.target_to(alloc, b',')?;
+        Ok(ArmParts {
+            text: Some(text),
+            target,
+        })
+    }
+
+    /// Arms with strings, perhaps none, the default and the mark at their end.
+    fn string_arms_to_end(&mut self, alloc: Global) -> Result<Seq<ArmParts>, Stop>
+        ensures { Reads any StringArmsToEnd self.old result self.new }
+    {
+        let mut arms = Seq::new(alloc);
+        while !self.is_word(b"default") {
+            let arm = self.string_arm(alloc)?;
+            arms.push(arm)?;
+        }
+        self.skip();
+        let target = self.target_to(alloc, b'>')?;
+        arms.push(ArmParts { text: None, target })?;
+        Ok(arms)
+    }
+
+    /// Arms with strings and the default, in angle brackets: the arms of a switch on strings.
+    pub fn string_arms(&mut self, alloc: Global) -> Result<Seq<ArmParts>, Stop>
+        ensures { Reads any (Behind (Mark 60 ∷ []) StringArmsToEnd) self.old result self.new }
+    {
+        if !self.is_mark(b'<') {
+            return Err(Stop::Syntax);
+        }
+        self.skip();
+        self.string_arms_to_end(alloc)
     }
 }
