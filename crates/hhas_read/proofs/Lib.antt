@@ -34,3 +34,4 @@ pub mod TypeHeads
 pub mod Runs
 pub mod ArmForms
 pub mod StringArmForms
+pub mod OperandForms

@@ -1,5 +1,7 @@
 use super::tests::stops_at;
 use super::*;
+use hhbc_ops::ImmKind;
+use hhbc_repo::ImmParts;
 use std::alloc::Global;
 use std::process::Abort;
 
@@ -85,4 +87,42 @@ fn other_arms_with_strings_stop_where_they_go_wrong(rt: HostRuntime) {
     no_string_arms(&rt, alloc, b"<default:L0,\"a\":L1>", 11);
     no_string_arms(&rt, alloc, b"<default:L0", 11);
     no_string_arms(&rt, alloc, b"<default L0>", 9);
+}
+
+#[test]
+fn operands_are_read(rt: HostRuntime) {
+    let alloc = rt.alloc();
+    let mut reader = Reader::new(b"-7 254 L1 <L0> V:$v <L0> SetM");
+    assert!(&rt;
+        matches!(
+            reader.untyped_operand(alloc, ImmKind::Int),
+            Ok(ImmParts::Int(-7))
+        )
+    );
+    assert!(&rt;
+        matches!(
+            reader.untyped_operand(alloc, ImmKind::Count),
+            Ok(ImmParts::Count(254))
+        )
+    );
+    assert!(&rt;
+        matches!(
+            reader.untyped_operand(alloc, ImmKind::Label),
+            Ok(ImmParts::Pos(_))
+        )
+    );
+    assert!(&rt;
+        matches!(
+            reader.untyped_operand(alloc, ImmKind::Switch),
+            Ok(ImmParts::Arms(_))
+        )
+    );
+    assert!(&rt;
+        matches!(
+            reader.untyped_operand(alloc, ImmKind::IterLocals),
+            Ok(ImmParts::IterLocals(None, _))
+        )
+    );
+    let answer = reader.untyped_operand(alloc, ImmKind::SSwitch);
+    stops_at(&rt, answer, &reader, 21);
 }
