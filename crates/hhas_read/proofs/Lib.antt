@@ -31,3 +31,5 @@ pub mod LeafWords
 pub mod Apart
 pub mod Closing
 pub mod TypeHeads
+pub mod TypeLines
+pub mod TypeForms

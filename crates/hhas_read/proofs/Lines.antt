@@ -53,7 +53,7 @@ among_of true atoms.Vec = refl
 among_of true atoms.Dict = refl
 among_of true atoms.Keyset = refl
 
-tail_head : (h : Head) (ts : List Token) (a : Atom) → AnAtomOf (Word (head_name h) ∷ ts) a → head_of a ≡ h
+pub tail_head : (h : Head) (ts : List Token) (a : Atom) → AnAtomOf (Word (head_name h) ∷ ts) a → head_of a ≡ h
 tail_head h ts a n = let s = split (Word (head_name h) ∷ ts) a n in same_head (head_of a) h (sym (ap front s.1))
 
 pub from_resumes : (keys : Bool) (least : ℕ) (h : Head) (left : List Token) → least ≤ head_line h → head_among keys h ≡ true

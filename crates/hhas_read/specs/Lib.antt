@@ -7,3 +7,4 @@ pub mod Atoms
 pub mod Lists
 pub mod LeafSyntax
 pub mod TypeWords
+pub mod WholeTypes

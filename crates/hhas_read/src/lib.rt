@@ -23,12 +23,14 @@ mod sequences;
 mod singles;
 mod tagged;
 mod types;
+mod whole_types;
 
 pub use atoms::{Atom, Head};
 pub use labels::is_reserved;
 pub use leaves::Written;
 pub use reader::{Piece, Reader, Stop};
 pub use types::TypeAtom;
+pub use whole_types::WrittenType;
 
 #[cfg(test)]
 mod tests;

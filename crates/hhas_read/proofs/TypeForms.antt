@@ -1,0 +1,1 @@
+-- Whole types, by what they begin with.
