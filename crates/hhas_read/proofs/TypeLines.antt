@@ -1,9 +1,9 @@
 -- Atoms of types of a line from one on.
-use Rattle.std.proofs.Common.{◌≡◌, ◌≤◌, ◌<◌, suc, ℕ, false, List, [], ◌∷◌, ◌++◌, refl, sym, ap, ◌∙◌, subst, arith, lit≤, inl, inr, codes}
+use Rattle.std.proofs.Common.{◌≡◌, ◌≤◌, ◌<◌, suc, ℕ, true, false, List, [], ◌∷◌, ◌++◌, refl, sym, ap, ◌∙◌, subst, arith, lit≤, Err, inl, inr, codes}
 use Rattle.hhas_lex.specs.Tokens.{Token, Word, Mark, front}
 use Rattle.hhbc_repo.specs.Languages.{Lang, Says, Means}
-use Rattle.hhbc_repo.specs.TypeSyntax.{line, type_line}
-use Rattle.hhas_read.specs.declared.atoms.Atom.{Atom}
+use Rattle.hhbc_repo.specs.TypeSyntax.{ATypeAtom, type_line}
+use Rattle.hhas_read.specs.declared.reader.Stop.{Stop}
 use Rattle.hhas_read.specs.declared.atoms.Atom.TheVariants as atoms
 use Rattle.hhas_read.specs.declared.atoms.Head.{Head}
 use Rattle.hhas_read.specs.declared.atoms.Head.TheVariants as heads
@@ -11,16 +11,18 @@ use Rattle.hhas_read.specs.declared.types.TypeAtom.{TypeAtom}
 use Rattle.hhas_read.specs.declared.types.TypeAtom.TheVariants as types
 use Rattle.hhas_read.specs.Atoms.{Tail}
 use Rattle.hhas_read.specs.LeafSyntax.{KeyAndLeaf, KeyTo, LeafTo, head_line}
-use Rattle.hhas_read.specs.Reading.{Placed, Follow, StuckAt, next}
+use Rattle.hhas_read.specs.Lists.{More}
+use Rattle.hhas_read.specs.Reading.{Placed, Past, Follow, Reads, StuckAt, Taken, next}
 use Rattle.hhas_read.specs.TypeWords.{ATypeAtomOf, TypeTail, dict_of, type_atom_of}
-use Rattle.hhas_read.specs.WholeTypes.{TypeAtomFrom}
-use Rattle.hhas_read.specs.Written.{atom_of, ends_atom, head_name}
+use Rattle.hhas_read.specs.WholeTypes.{TypeAtomFrom, TypeAtomsBehind, TypeAtomsFrom}
+use Rattle.hhas_read.specs.Written.{ends_atom, ends_type, head_name}
 use Rattle.hhas_read.proofs.Apart.{to_both, to_key, to_leaf}
 use Rattle.hhas_read.proofs.Following.{nothing_avoids}
-use Rattle.hhas_read.proofs.Heads.{head_of, joined}
-use Rattle.hhas_read.proofs.Lines.{line_of, none_after, tail_head}
+use Rattle.hhas_read.proofs.Heads.{joined}
+use Rattle.hhas_read.proofs.Lines.{line_of, none_after, tail_head, wider}
 use Rattle.hhas_read.proofs.OneAtom.{nothing_same, right_same, tail_same}
 use Rattle.hhas_read.proofs.Resuming.{Resumes, cancel, past_none}
+use Rattle.hhas_read.proofs.Rising as rising
 use Rattle.hhas_read.proofs.Rising.{Same}
 use Rattle.hhas_read.proofs.TypeHeads.{type_resumes, type_split, uninit_resumes}
 
@@ -119,3 +121,34 @@ none_of_types_after (types.Plain a) = none_after false a refl
 none_of_types_after (types.VecOf a) = lit≤ tt
 none_of_types_after (types.DictOf a b) = lit≤ tt
 none_of_types_after (types.KeysetOf a) = lit≤ tt
+
+-- ---- lists of them
+
+-- what stands behind an atom
+abbrev pub MoreTypes : ℕ → Lang (List TypeAtom)
+MoreTypes = More type_atom_of ATypeAtom type_line (λ a. true)
+
+module _ (first : List TypeAtom) where
+  pub to_more_types : (least : ℕ) (start old mid : Placed) (out : List TypeAtom) (v : TypeAtom)
+      → (inv : (used : List Token) × Past used start old × Resumes ends_type (TypeAtomsBehind first) used (TypeAtomsFrom least) (λ ys. out ++ ys) old.tokens)
+      → Taken ends_atom (TypeAtomFrom least) old mid v
+      → (used : List Token) × Past used start mid × Resumes ends_type (TypeAtomsBehind first) used (MoreTypes (suc (type_line (type_atom_of v)))) (λ us. out ++ (v ∷ us)) mid.tokens
+  to_more_types least start old mid out v inv t =
+      rising.to_more type_atom_of ATypeAtom type_line (λ a. true) ends_type ends_atom wider refl (TypeAtomsBehind first) least start old mid out v (type_from_same least) inv t
+
+  pub one_more_type : (least : ℕ) (start mid new : Placed) (out more : List TypeAtom) (v : TypeAtom)
+      → (far : (used : List Token) × Past used start mid × Resumes ends_type (TypeAtomsBehind first) used (MoreTypes least) (λ us. out ++ (v ∷ us)) mid.tokens)
+      → next mid ≡ Mark 124 → Past (next mid ∷ []) mid new → more ≡ out ++ v ∷ []
+      → (used : List Token) × Past used start new × Resumes ends_type (TypeAtomsBehind first) used (TypeAtomsFrom least) (λ ys. more ++ ys) new.tokens
+  one_more_type = rising.one_more type_atom_of ATypeAtom type_line (λ a. true) ends_type ends_atom wider refl refl (TypeAtomsBehind first)
+
+pub types_end : (least : ℕ) (p : Placed) → ends_type (next p) ≡ true → Taken ends_type (MoreTypes least) p p []
+types_end = rising.more_ends type_atom_of ATypeAtom type_line (λ a. true) ends_type ends_atom wider refl
+
+pub types_stuck : (least : ℕ) (p : Placed) → ends_type (next p) ≡ false → (next p ≡ Mark 124 → 8 < least) → StuckAt ends_type (MoreTypes least) p p
+types_stuck least p f late =
+    rising.more_stuck type_atom_of ATypeAtom type_line (λ a. true) ends_type ends_atom wider refl least p f
+    (λ e a v n. let last = none_of_types_after v in let low = n.1 in let past = late e in omega (arith, last, low, past))
+
+pub types_stop : (least : ℕ) (old new : Placed) (e : Stop) → Reads ends_atom (TypeAtomFrom least) old (Err e) new → Reads ends_type (TypeAtomsFrom least) old (Err e) new
+types_stop = rising.first_stop type_atom_of ATypeAtom type_line (λ a. true) ends_type ends_atom wider refl

@@ -33,7 +33,7 @@ TypeAtomsBehind first = Means (λ xs. first ++ xs) (TypeAtomsFrom 1)
 
 -- what stands behind `Uninit` and a bar
 abbrev pub UninitMore : Lang WrittenType
-UninitMore = Either (Means (λ xs. whole.Atoms (Uninit ∷ xs)) (TypeAtomsFrom 1)) (Says (Word (codes "Cell") ∷ []) whole.UninitCell)
+UninitMore = Either (Means whole.Atoms (TypeAtomsBehind (Uninit ∷ []))) (Says (Word (codes "Cell") ∷ []) whole.UninitCell)
 
 -- and behind `Uninit`
 abbrev pub UninitTail : Lang WrittenType
