@@ -33,3 +33,4 @@ pub mod Closing
 pub mod TypeHeads
 pub mod TypeLines
 pub mod TypeForms
+pub mod Broad

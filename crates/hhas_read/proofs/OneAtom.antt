@@ -31,7 +31,7 @@ right_same F A t f B never same law a b x y v w (inr n) (inr m) o p e =
     (cancel (t ∷ []) _ _ (sym (ap (λ l. l ++ x) n.tokens) ∙ e ∙ ap (λ l. l ++ y) m.tokens)) in
     (n.tokens ∙ ap (λ l. t ∷ l) s.0 ∙ sym m.tokens, n.word.is ∙ ap f s.1 ∙ sym m.word.is)
 
-a_word : Lawful any AWord
+pub a_word : Lawful any AWord
 a_word = single_lawful Word any (codes "a") refl same_word
 
 pub tail_same : (h : Head) → Same ends_atom (Tail h)

@@ -8,3 +8,4 @@ pub mod Lists
 pub mod LeafSyntax
 pub mod TypeWords
 pub mod WholeTypes
+pub mod Constraints

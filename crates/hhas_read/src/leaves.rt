@@ -131,7 +131,7 @@ impl<'a> Reader<'a> {
     }
 
     /// What is written, where it ends here.
-    fn leaf_ended(&self, leaf: Written) -> Result<Written, Stop>
+    pub(crate) fn leaf_ended(&self, leaf: Written) -> Result<Written, Stop>
         ensures { Reads ends_type (Says [] leaf) self.now result self.now }
     {
         if self.ends_type() {

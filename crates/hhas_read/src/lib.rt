@@ -2,11 +2,13 @@
 //! that leads to no word of the rule. So far it has the single tokens, fixed tokens, labels, words with a
 //! colon and what follows them, words of operators, queries and kinds of cells, member sequences, the locals of an
 //! iterator, lists of locals and parameters, values of constants and properties, types as they are written, with
-//! their atoms, leaves and keys; constraints, what types stand for, codes, bodies, classes and whole texts are still to come.
+//! their atoms, leaves and keys, and constraints; what types stand for, codes, bodies, classes and whole texts are still
+//! to come.
 #![tactic(auto)]
 
 mod atoms;
 mod cell_kinds;
+mod constraints;
 mod containers;
 mod finals;
 mod fixed;
