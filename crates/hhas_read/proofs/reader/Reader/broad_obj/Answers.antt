@@ -1,11 +1,11 @@
-use Rattle.std.proofs.Common.{[], ◌∷◌, refl, subst, codes}
-use Rattle.hhas_lex.specs.Tokens.{LessEqual, Word}
+use Rattle.std.proofs.Common.{[], ◌∷◌, refl, subst}
+use Rattle.hhas_lex.specs.Tokens.{LessEqual}
 use Rattle.hhbc_repo.specs.CodeSyntax.{AWord}
 use Rattle.hhbc_repo.specs.Languages.{Says, Behind, Means}
 use Rattle.hhas_read.specs.declared.atoms.Atom.TheVariants as atoms
 use Rattle.hhas_read.specs.declared.atoms.Head.TheVariants as heads
 use Rattle.hhas_read.specs.Constraints.{BroadTail}
-use Rattle.hhas_read.specs.Reading.{Past, any, next}
+use Rattle.hhas_read.specs.Reading.{Past, next}
 use Rattle.hhas_read.specs.Written.{ends_atom}
 use Rattle.hhas_read.proofs.Broad.{sub_broad}
 use Rattle.hhas_read.proofs.Following.{behind_avoids, ends_on, left_resumes, stops_on}
