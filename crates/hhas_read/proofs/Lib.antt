@@ -34,3 +34,4 @@ pub mod TypeHeads
 pub mod TypeLines
 pub mod TypeForms
 pub mod Broad
+pub mod ConstraintApart
