@@ -35,3 +35,4 @@ pub mod TypeLines
 pub mod TypeForms
 pub mod Broad
 pub mod ConstraintApart
+pub mod TypeApart

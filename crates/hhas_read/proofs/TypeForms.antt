@@ -92,13 +92,13 @@ all_fit (a ∷ xs) = all_fit xs
 at_front : (t : Token) (ts w x y left : List Token) → w ≡ t ∷ ts → w ++ x ≡ y → front y ≡ front left → front left ≡ t
 at_front t ts w x y left n e h = sym h ∙ ap front (sym e) ∙ ap (λ l. front (l ++ x)) n
 
-never_only : (w : List Token) (v : WrittenType) (x : List Token) → AWrittenTypeOf w v → front (w ++ x) ≡ Word (codes "Never") → (w ≡ Word (codes "Never") ∷ []) × (v ≡ whole.Never)
+pub never_only : (w : List Token) (v : WrittenType) (x : List Token) → AWrittenTypeOf w v → front (w ++ x) ≡ Word (codes "Never") → (w ≡ Word (codes "Never") ∷ []) × (v ≡ whole.Never)
 never_only w whole.Never x n e = (n, refl)
 never_only w whole.Cell x n e = absurd (apart (codes "Cell") (codes "Never") refl (sym (ap (λ l. front (l ++ x)) n) ∙ e))
 never_only w whole.UninitCell x n e = absurd (apart (codes "Uninit") (codes "Never") refl (sym (ap (λ l. front (l ++ x)) n) ∙ e))
 never_only w (whole.Atoms xs) x n e = absurd (not_never (front (w ++ x)) (begins w xs x n.0) e)
 
-cell_only : (w : List Token) (v : WrittenType) (x : List Token) → AWrittenTypeOf w v → front (w ++ x) ≡ Word (codes "Cell") → (w ≡ Word (codes "Cell") ∷ []) × (v ≡ whole.Cell)
+pub cell_only : (w : List Token) (v : WrittenType) (x : List Token) → AWrittenTypeOf w v → front (w ++ x) ≡ Word (codes "Cell") → (w ≡ Word (codes "Cell") ∷ []) × (v ≡ whole.Cell)
 cell_only w whole.Never x n e = absurd (apart (codes "Never") (codes "Cell") refl (sym (ap (λ l. front (l ++ x)) n) ∙ e))
 cell_only w whole.Cell x n e = (n, refl)
 cell_only w whole.UninitCell x n e = absurd (apart (codes "Uninit") (codes "Cell") refl (sym (ap (λ l. front (l ++ x)) n) ∙ e))
