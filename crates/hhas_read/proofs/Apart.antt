@@ -49,7 +49,7 @@ module _ {V W : Type 0} (g : V → W) (A : Lang W) (F G : Follow) (wide : (t : T
 
 -- ---- leaves and keys
 
-atoms_same : Same ends_type (λ ts (xs : List Atom). Separated 124 AnAtom ts (map atom_of xs))
+pub atoms_same : Same ends_type (λ ts (xs : List Atom). Separated 124 AnAtom ts (map atom_of xs))
 atoms_same = barred_same atom_of AnAtom ends_type ends_atom wider refl refl atom_same
 
 fronts : (a b x y : List Token) (t : Token) → a ++ x ≡ b ++ y → b ≡ t ∷ [] → front (a ++ x) ≡ t
@@ -61,7 +61,7 @@ never_cell a b x y n m e = absurd (apart (codes "Never") (codes "Cell") refl (sy
 atoms_never : {A : Type 0} (a b x y : List Token) (xs : List Atom) → Separated 124 AnAtom a (map atom_of xs) → b ≡ Word (codes "Never") ∷ [] → a ++ x ≡ b ++ y → A
 atoms_never a b x y xs n m e = let f = first_head a xs x n in absurd (never_head f.0 (sym f.1 ∙ fronts a b x y (Word (codes "Never")) e m))
 
-atoms_cell : {A : Type 0} (a b x y : List Token) (xs : List Atom) → Separated 124 AnAtom a (map atom_of xs) → b ≡ Word (codes "Cell") ∷ [] → a ++ x ≡ b ++ y → A
+pub atoms_cell : {A : Type 0} (a b x y : List Token) (xs : List Atom) → Separated 124 AnAtom a (map atom_of xs) → b ≡ Word (codes "Cell") ∷ [] → a ++ x ≡ b ++ y → A
 atoms_cell a b x y xs n m e = let f = first_head a xs x n in absurd (cell_head f.0 (sym f.1 ∙ fronts a b x y (Word (codes "Cell")) e m))
 
 leaf_same : Same ends_type ALeafOf

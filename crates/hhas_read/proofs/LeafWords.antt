@@ -56,7 +56,7 @@ all_true : (xs : List Atom) → list_all (among false) (map atom_of xs) ≡ true
 all_true [] = refl
 all_true (a ∷ xs) = all_true xs
 
-at_front : (t : Token) (w x y left : List Token) → w ≡ t ∷ [] → w ++ x ≡ y → front y ≡ front left → front left ≡ t
+pub at_front : (t : Token) (w x y left : List Token) → w ≡ t ∷ [] → w ++ x ≡ y → front y ≡ front left → front left ≡ t
 at_front t w x y left n e h = sym h ∙ ap front (sym e) ∙ ap (λ l. front (l ++ x)) n
 
 module _ (F : Follow) (left : List Token) where

@@ -35,3 +35,8 @@ pub mod Runs
 pub mod ArmForms
 pub mod StringArmForms
 pub mod OperandForms
+pub mod TypeLines
+pub mod TypeForms
+pub mod Broad
+pub mod ConstraintApart
+pub mod TypeApart

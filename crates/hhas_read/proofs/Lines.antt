@@ -53,7 +53,7 @@ among_of true atoms.Vec = refl
 among_of true atoms.Dict = refl
 among_of true atoms.Keyset = refl
 
-tail_head : (h : Head) (ts : List Token) (a : Atom) → AnAtomOf (Word (head_name h) ∷ ts) a → head_of a ≡ h
+pub tail_head : (h : Head) (ts : List Token) (a : Atom) → AnAtomOf (Word (head_name h) ∷ ts) a → head_of a ≡ h
 tail_head h ts a n = let s = split (Word (head_name h) ∷ ts) a n in same_head (head_of a) h (sym (ap front s.1))
 
 pub from_resumes : (keys : Bool) (least : ℕ) (h : Head) (left : List Token) → least ≤ head_line h → head_among keys h ≡ true
@@ -151,13 +151,13 @@ module _ (keys : Bool) where
       → Taken ends_atom (AtomFrom keys least) old mid v
       → (used : List Token) × Past used start mid × Resumes ends_type (AtomsFrom keys 0) used (MoreAtoms (suc (line (atom_of v)))) (λ us. out ++ (v ∷ us)) mid.tokens
   to_more_atoms least start old mid out v inv t =
-      rising.to_more atom_of AnAtom line (among keys) ends_type ends_atom wider refl 0 least start old mid out v (from_same keys least) inv t
+      rising.to_more atom_of AnAtom line (among keys) ends_type ends_atom wider refl (AtomsFrom keys 0) least start old mid out v (from_same keys least) inv t
 
   pub one_more_atom : (least : ℕ) (start mid new : Placed) (out more : List Atom) (v : Atom)
       → (far : (used : List Token) × Past used start mid × Resumes ends_type (AtomsFrom keys 0) used (MoreAtoms least) (λ us. out ++ (v ∷ us)) mid.tokens)
       → next mid ≡ Mark 124 → Past (next mid ∷ []) mid new → more ≡ out ++ v ∷ []
       → (used : List Token) × Past used start new × Resumes ends_type (AtomsFrom keys 0) used (AtomsFrom keys least) (λ ys. more ++ ys) new.tokens
-  one_more_atom = rising.one_more atom_of AnAtom line (among keys) ends_type ends_atom wider refl refl 0
+  one_more_atom = rising.one_more atom_of AnAtom line (among keys) ends_type ends_atom wider refl refl (AtomsFrom keys 0)
 
   pub atoms_end : (least : ℕ) (p : Placed) → ends_type (next p) ≡ true → Taken ends_type (MoreAtoms least) p p []
   atoms_end = rising.more_ends atom_of AnAtom line (among keys) ends_type ends_atom wider refl

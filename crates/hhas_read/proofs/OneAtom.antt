@@ -18,10 +18,10 @@ use Rattle.hhas_read.proofs.Rising.{Same}
 use Rattle.hhas_read.proofs.Said.{same_integer, same_word}
 use Rattle.hhas_read.proofs.Short.{short_lawful}
 
-nothing_same : {V : Type 0} (F : Follow) (v : V) → Same F (Says [] v)
+pub nothing_same : {V : Type 0} (F : Follow) (v : V) → Same F (Says [] v)
 nothing_same F v a b x y u w n m o p e = (n.0 ∙ sym m.0, n.1 ∙ sym m.1)
 
-right_same : {V W : Type 0} (F : Follow) (A : Lang V) (t : Token) (f : W → V) (B : Lang W) → Avoids F A t → Same F A → Lawful any B
+pub right_same : {V W : Type 0} (F : Follow) (A : Lang V) (t : Token) (f : W → V) (B : Lang W) → Avoids F A t → Same F A → Lawful any B
     → Same F (Either A (Behind (t ∷ []) (Means f B)))
 right_same F A t f B never same law a b x y v w (inl n) (inl m) o p e = same a b x y v w n m o p e
 right_same F A t f B never same law a b x y v w (inl n) (inr m) o p e = absurd (never a v x n o (ap front e ∙ ap front (ap (λ l. l ++ y) m.tokens)))
@@ -31,10 +31,10 @@ right_same F A t f B never same law a b x y v w (inr n) (inr m) o p e =
     (cancel (t ∷ []) _ _ (sym (ap (λ l. l ++ x) n.tokens) ∙ e ∙ ap (λ l. l ++ y) m.tokens)) in
     (n.tokens ∙ ap (λ l. t ∷ l) s.0 ∙ sym m.tokens, n.word.is ∙ ap f s.1 ∙ sym m.word.is)
 
-a_word : Lawful any AWord
+pub a_word : Lawful any AWord
 a_word = single_lawful Word any (codes "a") refl same_word
 
-tail_same : (h : Head) → Same ends_atom (Tail h)
+pub tail_same : (h : Head) → Same ends_atom (Tail h)
 tail_same heads.Null = nothing_same ends_atom atoms.Null
 tail_same heads.False = nothing_same ends_atom atoms.False
 tail_same heads.True = nothing_same ends_atom atoms.True

@@ -120,32 +120,32 @@ module _ {V W : Type 0} (g : V → W) (A : Lang W) (line : W → ℕ) (ok : W �
       ];
     }
 
-    -- ---- the elements so far, and one more
+    -- ---- the elements so far of a list, and one more
 
-    pub to_more : (base least : ℕ) (start old mid : Placed) (out : List V) (v : V) → Same G (Elem least)
-        → (inv : (used : List Token) × Past used start old × Resumes F (Rising base) used (Rising least) (λ ys. out ++ ys) old.tokens)
+    pub to_more : (N : Lang (List V)) (least : ℕ) (start old mid : Placed) (out : List V) (v : V) → Same G (Elem least)
+        → (inv : (used : List Token) × Past used start old × Resumes F N used (Rising least) (λ ys. out ++ ys) old.tokens)
         → Taken G (Elem least) old mid v
-        → (used : List Token) × Past used start mid × Resumes F (Rising base) used (More (suc (line (g v)))) (λ us. out ++ (v ∷ us)) mid.tokens
-    to_more base least start old mid out v same inv t = (
+        → (used : List Token) × Past used start mid × Resumes F N used (More (suc (line (g v)))) (λ us. out ++ (v ∷ us)) mid.tokens
+    to_more N least start old mid out v same inv t = (
       inv.0 ++ t.used,
       past_on inv.1 t.past,
-      resumes_then F (Rising base) (Rising least) (More (suc (line (g v)))) inv.0 t.used old.tokens mid.tokens (λ ys. out ++ ys) (λ us. v ∷ us) inv.2
+      resumes_then F N (Rising least) (More (suc (line (g v)))) inv.0 t.used old.tokens mid.tokens (λ ys. out ++ ys) (λ us. v ∷ us) inv.2
           (first_resumes least old mid v same t) t.past.tokens,
     )
 
     -- and the bar behind it
-    pub one_more : F (Mark 124) ≡ false → (base least : ℕ) (start mid new : Placed) (out more : List V) (v : V)
-        → (far : (used : List Token) × Past used start mid × Resumes F (Rising base) used (More least) (λ us. out ++ (v ∷ us)) mid.tokens)
+    pub one_more : F (Mark 124) ≡ false → (N : Lang (List V)) (least : ℕ) (start mid new : Placed) (out more : List V) (v : V)
+        → (far : (used : List Token) × Past used start mid × Resumes F N used (More least) (λ us. out ++ (v ∷ us)) mid.tokens)
         → next mid ≡ Mark 124 → Past (next mid ∷ []) mid new → more ≡ out ++ v ∷ []
-        → (used : List Token) × Past used start new × Resumes F (Rising base) used (Rising least) (λ ys. more ++ ys) new.tokens
-    one_more no_bar base least start mid new out more v far at past pushed =
+        → (used : List Token) × Past used start new × Resumes F N used (Rising least) (λ ys. more ++ ys) new.tokens
+    one_more no_bar N least start mid new out more v far at past pushed =
         let on : Past (Mark 124 ∷ []) mid new = subst (λ t. Past (t ∷ []) mid new) at past in
-        let all : Resumes F (Rising base) (far.0 ++ (Mark 124 ∷ [])) (Rising least) (λ ys. out ++ (v ∷ ys)) new.tokens =
-        resumes_then F (Rising base) (More least) (Rising least) far.0 (Mark 124 ∷ []) mid.tokens new.tokens (λ us. out ++ (v ∷ us)) (λ us. us) far.2
+        let all : Resumes F N (far.0 ++ (Mark 124 ∷ [])) (Rising least) (λ ys. out ++ (v ∷ ys)) new.tokens =
+        resumes_then F N (More least) (Rising least) far.0 (Mark 124 ∷ []) mid.tokens new.tokens (λ us. out ++ (v ∷ us)) (λ us. us) far.2
         (more_goes_on no_bar least new.tokens) on.tokens in (
           far.0 ++ (Mark 124 ∷ []),
           past_on far.1 on,
-          resumes_same F (Rising base) (Rising least) (far.0 ++ (Mark 124 ∷ [])) new.tokens (λ ys. out ++ (v ∷ ys)) (λ ys. more ++ ys)
+          resumes_same F N (Rising least) (far.0 ++ (Mark 124 ∷ [])) new.tokens (λ ys. out ++ (v ∷ ys)) (λ ys. more ++ ys)
               (λ ys. sym (ap (λ l. l ++ ys) pushed ∙ append_assoc out (v ∷ []) ys)) all,
         )
 

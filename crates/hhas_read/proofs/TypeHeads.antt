@@ -67,7 +67,7 @@ type_joined heads.Keyset ts a (inr m) = let w = m.word.word in
     (record { rest = m.rest; word = record { first = w.first; word = w.word; tokens = w.tokens }; tokens = ap (λ l. Word (codes "Keyset") ∷ l) m.tokens })
 
 -- Uninit, or a head and what is behind it
-type_split : (w : List Token) (a : TypeAtom) → (a ≡ types.Uninit → ⊥) → ATypeAtomOf w a → (h : Head) × (rest : List Token) × (w ≡ Word (head_name h) ∷ rest) × TypeTail h rest a
+pub type_split : (w : List Token) (a : TypeAtom) → (a ≡ types.Uninit → ⊥) → ATypeAtomOf w a → (h : Head) × (rest : List Token) × (w ≡ Word (head_name h) ∷ rest) × TypeTail h rest a
 type_split w types.Uninit other n = absurd (other refl)
 type_split w (types.Plain p) other n = let s = split w p n in (head_of p, s.0, s.1, plain_tail (head_of p) s.0 p s.2)
 type_split w (types.VecOf leaf) other n = (

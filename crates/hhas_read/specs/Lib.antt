@@ -8,3 +8,5 @@ pub mod Lists
 pub mod LeafSyntax
 pub mod TypeWords
 pub mod Arms
+pub mod WholeTypes
+pub mod Constraints

@@ -95,7 +95,7 @@ impl<'a> Reader<'a> {
     }
 
     /// The atom, where it ends here.
-    fn ended(&self, atom: Atom) -> Result<Atom, Stop>
+    pub(crate) fn ended(&self, atom: Atom) -> Result<Atom, Stop>
         ensures { Reads ends_atom (Says [] atom) self.now result self.now }
     {
         if self.ends_atom() {

@@ -20,7 +20,7 @@ pub enum Written {
     Of(Seq<Atom>),
 }
 
-fn head_line(head: Head) -> u8
+pub(crate) fn head_line(head: Head) -> u8
     ensures { result ≡ head_line head }
 {
     match head {
@@ -38,7 +38,7 @@ fn head_line(head: Head) -> u8
 }
 
 /// The line of an atom.
-fn atom_line(atom: &Atom) -> u8
+pub(crate) fn atom_line(atom: &Atom) -> u8
     ensures { result ≡ line (atom_of atom.now) }
 {
     match atom {
@@ -131,7 +131,7 @@ impl<'a> Reader<'a> {
     }
 
     /// What is written, where it ends here.
-    fn leaf_ended(&self, leaf: Written) -> Result<Written, Stop>
+    pub(crate) fn leaf_ended(&self, leaf: Written) -> Result<Written, Stop>
         ensures { Reads ends_type (Says [] leaf) self.now result self.now }
     {
         if self.ends_type() {

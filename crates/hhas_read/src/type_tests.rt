@@ -219,3 +219,112 @@ fn other_atoms_of_types_stop_where_they_begin_to_differ(rt: HostRuntime) {
     a_type_atom(&rt, alloc, Reader::new(b"Dict<Bool,Int>"), false, 5);
     a_type_atom(&rt, alloc, Reader::new(b"Keyset<Int,Int>"), false, 10);
 }
+
+/// A type at the front of the text is read or refused, and the next token begins there.
+fn a_type(rt: &impl Abort, alloc: Global, mut reader: Reader, is_read: bool, place: u32) {
+    match reader.written_type(alloc) {
+        Ok(_) => assert!(rt; is_read),
+        Err(stop) => {
+            assert!(rt; !is_read);
+            assert_eq!(rt; stop, Stop::Syntax);
+        }
+    }
+    assert_eq!(rt; reader.place(), place);
+}
+
+#[test]
+fn types_are_read(rt: HostRuntime) {
+    let alloc = rt.alloc();
+    a_type(&rt, alloc, Reader::new(b"Never;"), true, 5);
+    a_type(&rt, alloc, Reader::new(b"Cell,"), true, 4);
+    a_type(&rt, alloc, Reader::new(b"Uninit>"), true, 6);
+    a_type(&rt, alloc, Reader::new(b"Uninit|Cell ;"), true, 12);
+    a_type(&rt, alloc, Reader::new(b"Uninit|Int|Vec<Str>;"), true, 19);
+    a_type(
+        &rt,
+        alloc,
+        Reader::new(b"Null|Dict<Int,Cell>|Keyset<Str> x"),
+        true,
+        32,
+    );
+    a_type(&rt, alloc, Reader::new(b"Obj<=C,"), true, 6);
+    let mut reader = Reader::new(b"Uninit|Int Uninit|Cell");
+    let Ok(WrittenType::Atoms(atoms)) = reader.written_type(alloc) else {
+        panic!(&rt; "not read");
+    };
+    assert!(&rt;
+        matches!(
+            atoms.as_slice(),
+            [TypeAtom::Uninit, TypeAtom::Plain(Atom::Int)]
+        )
+    );
+    assert!(&rt; matches!(reader.written_type(alloc), Ok(WrittenType::UninitCell)));
+}
+
+#[test]
+fn other_types_stop_where_they_begin_to_differ(rt: HostRuntime) {
+    let alloc = rt.alloc();
+    a_type(&rt, alloc, Reader::new(b""), false, 0);
+    a_type(&rt, alloc, Reader::new(b"int"), false, 0);
+    a_type(&rt, alloc, Reader::new(b"Cell|Int"), false, 4);
+    a_type(&rt, alloc, Reader::new(b"Never|Int"), false, 5);
+    a_type(&rt, alloc, Reader::new(b"Uninit=5"), false, 6);
+    a_type(&rt, alloc, Reader::new(b"Uninit|Never"), false, 7);
+    a_type(&rt, alloc, Reader::new(b"Uninit|Uninit"), false, 7);
+    a_type(&rt, alloc, Reader::new(b"Uninit|Cell|Int"), false, 11);
+    a_type(&rt, alloc, Reader::new(b"Uninit|Vec<Never|Int>"), false, 16);
+    a_type(&rt, alloc, Reader::new(b"Int|Uninit"), false, 4);
+    a_type(&rt, alloc, Reader::new(b"Int|Cell"), false, 4);
+    a_type(&rt, alloc, Reader::new(b"Int|Null"), false, 4);
+    a_type(&rt, alloc, Reader::new(b"False|True"), false, 6);
+    a_type(&rt, alloc, Reader::new(b"Vec<Int>|Vec"), false, 9);
+    a_type(&rt, alloc, Reader::new(b"Keyset<Int>|Int"), false, 11);
+    a_type(&rt, alloc, Reader::new(b"Keyset|"), false, 6);
+}
+
+/// A constraint at the front of the text is read or refused, and the next token begins there.
+fn a_constraint(rt: &impl Abort, alloc: Global, mut reader: Reader, is_read: bool, place: u32) {
+    match reader.constraint(alloc) {
+        Ok(_) => assert!(rt; is_read),
+        Err(stop) => {
+            assert!(rt; !is_read);
+            assert_eq!(rt; stop, Stop::Syntax);
+        }
+    }
+    assert_eq!(rt; reader.place(), place);
+}
+
+#[test]
+fn constraints_are_read(rt: HostRuntime) {
+    let alloc = rt.alloc();
+    a_constraint(&rt, alloc, Reader::new(b"Cell;"), true, 4);
+    a_constraint(&rt, alloc, Reader::new(b"Null|Int;"), true, 8);
+    a_constraint(&rt, alloc, Reader::new(b"Obj,"), true, 3);
+    a_constraint(&rt, alloc, Reader::new(b"Vec|Dict>"), true, 8);
+    a_constraint(
+        &rt,
+        alloc,
+        Reader::new(b"Bool|Str|Obj<=C|Keyset x"),
+        true,
+        23,
+    );
+}
+
+#[test]
+fn other_constraints_stop_where_they_begin_to_differ(rt: HostRuntime) {
+    let alloc = rt.alloc();
+    a_constraint(&rt, alloc, Reader::new(b"Never"), false, 0);
+    a_constraint(&rt, alloc, Reader::new(b"Uninit"), false, 0);
+    a_constraint(&rt, alloc, Reader::new(b"False"), false, 0);
+    a_constraint(&rt, alloc, Reader::new(b"Null|True"), false, 5);
+    a_constraint(&rt, alloc, Reader::new(b"Null|Cell"), false, 5);
+    a_constraint(&rt, alloc, Reader::new(b"Cell|Int"), false, 4);
+    a_constraint(&rt, alloc, Reader::new(b"Int=5"), false, 3);
+    a_constraint(&rt, alloc, Reader::new(b"Str=\"a\""), false, 3);
+    a_constraint(&rt, alloc, Reader::new(b"Obj=C"), false, 3);
+    a_constraint(&rt, alloc, Reader::new(b"Obj<=\"C\""), false, 5);
+    a_constraint(&rt, alloc, Reader::new(b"Vec<Int>"), false, 3);
+    a_constraint(&rt, alloc, Reader::new(b"Int|Int"), false, 4);
+    a_constraint(&rt, alloc, Reader::new(b"Str|Int"), false, 4);
+    a_constraint(&rt, alloc, Reader::new(b"Keyset|Int"), false, 6);
+}

@@ -88,7 +88,7 @@ impl<'a> Reader<'a> {
     }
 
     /// What stands behind the head of an atom of a type.
-    fn behind_type_head(&mut self, alloc: Global, head: Head) -> Result<TypeAtom, Stop>
+    pub(crate) fn behind_type_head(&mut self, alloc: Global, head: Head) -> Result<TypeAtom, Stop>
         ensures { Reads ends_atom (TypeTail head) self.old result self.new }
     {
         match head {
