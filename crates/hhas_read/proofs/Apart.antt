@@ -1,12 +1,13 @@
 -- Leaves and keys stand apart from what follows them, and each has one value.
 use Rattle.std.proofs.Common.{◌≡◌, ℕ, ◌&&◌, true, false, List, [], ◌∷◌, ◌++◌, map, refl, sym, ap, ◌∙◌, append_assoc, codes}
 use Rattle.hhas_lex.specs.Tokens.{Token, Word, Mark, front}
+use Rattle.hhas_lex.specs.Spelling.{is_proper}
 use Rattle.hhbc_repo.specs.Languages.{Lang, Separated}
 use Rattle.hhbc_repo.specs.TypeSyntax.{AnAtom}
 use Rattle.hhas_read.specs.declared.atoms.Atom.{Atom}
 use Rattle.hhas_read.specs.declared.leaves.Written.TheVariants as written
 use Rattle.hhas_read.specs.LeafSyntax.{ALeafOf, AKeyOf, KeyAndLeaf, KeyTo, LeafTo}
-use Rattle.hhas_read.specs.Reading.{Follow, any, may_stand}
+use Rattle.hhas_read.specs.Reading.{Follow, any}
 use Rattle.hhas_read.specs.Written.{atom_of, ends_atom, ends_type}
 use Rattle.hhas_read.proofs.Joining.{Lawful, both_lawful, ended_lawful}
 use Rattle.hhas_read.proofs.LeafWords.{apart, cell_head, first_head, never_head}
@@ -95,7 +96,7 @@ key_lawful = record { same = key_same; some = record { more = Word (codes "Never
 pub to_leaf : Lawful any LeafTo
 to_leaf = ended_lawful any ends_type ALeafOf (Mark 62) [] refl refl leaf_lawful
 
-pub to_key : (end : ℕ) → ends_type (Mark end) ≡ true → may_stand (Mark end) ≡ true → Lawful any (KeyTo end)
+pub to_key : (end : ℕ) → ends_type (Mark end) ≡ true → is_proper (Mark end) ≡ true → Lawful any (KeyTo end)
 to_key end follows stands = ended_lawful any ends_type AKeyOf (Mark end) [] follows (ap (λ c. c && true) stands) key_lawful
 
 pub to_both : Lawful any KeyAndLeaf

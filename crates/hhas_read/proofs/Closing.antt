@@ -1,14 +1,15 @@
 -- A word, and the mark at its end.
 use Rattle.std.proofs.Common.{◌≡◌, true, ◌&&◌, [], ◌∷◌, refl, ap, Err}
 use Rattle.hhas_lex.specs.Tokens.{Token}
+use Rattle.hhas_lex.specs.Spelling.{is_proper}
 use Rattle.hhbc_repo.specs.Languages.{Lang, Ended, Says}
 use Rattle.hhas_read.specs.declared.reader.Stop.{Stop}
 use Rattle.hhas_read.specs.declared.reader.Stop.TheVariants.{Syntax, NoMemory}
-use Rattle.hhas_read.specs.Reading.{Placed, Past, Follow, Reads, StuckAt, Taken, any, may_stand, next}
+use Rattle.hhas_read.specs.Reading.{Placed, Past, Follow, Reads, StuckAt, Taken, any, next}
 use Rattle.hhas_read.proofs.Joining.{Lawful, ended_resumes, ended_stuck, says_stuck}
 use Rattle.hhas_read.proofs.Resuming.{stuck_lifts, taken_lifts}
 
-module _ {V : Type 0} (G : Follow) (A : Lang V) (t : Token) (g : G t ≡ true) (stands : may_stand t ≡ true) where
+module _ {V : Type 0} (G : Follow) (A : Lang V) (t : Token) (g : G t ≡ true) (stands : is_proper t ≡ true) where
   pub closed_stop : (old new : Placed) (e : Stop) → Reads G A old (Err e) new → Reads any (Ended A (t ∷ [])) old (Err e) new
   closed_stop old new Syntax s = ended_stuck any G A t [] g (ap (λ c. c && true) stands) old new s
   closed_stop old new NoMemory s = tt

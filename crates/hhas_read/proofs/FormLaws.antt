@@ -4,13 +4,14 @@ use Rattle.std.specs.List.{list_all}
 use Rattle.std.specs.Str.{bytes_eq}
 use Rattle.std.proofs.lemmas.Slice.Eq.{bytes_eq-Decides}
 use Rattle.hhas_lex.specs.Tokens.{Token, Word, Local, Integer, Str, Mark, front}
+use Rattle.hhas_lex.specs.Spelling.{is_proper}
 use Rattle.hhbc_repo.specs.declared.parts.MemberKeyParts.{MemberKeyParts}
 use Rattle.hhbc_repo.specs.declared.parts.MemberKeyParts.TheVariants as keys
 use Rattle.hhbc_repo.specs.declared.parts.BaseParts.{BaseParts}
 use Rattle.hhbc_repo.specs.declared.parts.BaseParts.TheVariants as bases
 use Rattle.hhbc_repo.specs.Languages.{Lang, Behind}
 use Rattle.hhbc_repo.specs.CodeSyntax.{ABase, ADim, AKey, ALocal, AnIndex, AString, AnInteger, AWord, QueryKey}
-use Rattle.hhas_read.specs.Reading.{Just, Tagged, any, may_stand}
+use Rattle.hhas_read.specs.Reading.{Just, Tagged, any}
 use Rattle.hhas_read.proofs.Reserved.{never_both}
 use Rattle.hhas_read.proofs.Said.{same_word, same_local, same_integer, same_string}
 use Rattle.hhas_read.proofs.Joining.{Lawful, behind_lawful}
@@ -32,7 +33,7 @@ form_same {V} {W} N word M f name begins form off law a b x y u v is n m e = by 
     by (inr d) =
         absurd (never_both (sym ((bytes_eq-Decides (word v) name).1 (same_word (word v) name (sym (begins b v y m) ∙ ap front (sym e) ∙ begins a (f u) x n ∙ ap Word is))) ∙ d))
 
-pub tagged_lawful : {W : Type 0} (name : List ℕ) (A : Lang W) → list_all may_stand (Word name ∷ Mark 58 ∷ []) ≡ true → Lawful any A → Lawful any (Tagged name A)
+pub tagged_lawful : {W : Type 0} (name : List ℕ) (A : Lang W) → list_all is_proper (Word name ∷ Mark 58 ∷ []) ≡ true → Lawful any A → Lawful any (Tagged name A)
 tagged_lawful name A e law = behind_lawful any (Word name ∷ Mark 58 ∷ []) A e law
 
 pub local_lawful : Lawful any ALocal

@@ -3,14 +3,15 @@ use Rattle.std.proofs.Common.{◌≡◌, true, ◌&&◌, List, [], ◌∷◌, �
 use Rattle.std.specs.List.{list_all}
 use Rattle.std.proofs.lemmas.List.Folds.{list_all-append}
 use Rattle.hhas_lex.specs.Tokens.{Token, front}
+use Rattle.hhas_lex.specs.Spelling.{is_proper}
 use Rattle.hhbc_repo.specs.Languages.{Lang, Says, Behind, Ended, Both, Means}
 use Rattle.hhas_read.specs.declared.reader.Stop.{Stop}
 use Rattle.hhas_read.specs.declared.reader.Stop.TheVariants.{Syntax, NoMemory}
-use Rattle.hhas_read.specs.Reading.{Placed, Follow, Viable, StuckAt, Taken, Reads, next, may_stand}
+use Rattle.hhas_read.specs.Reading.{Placed, Follow, Viable, StuckAt, Taken, Reads, next}
 use Rattle.hhas_read.proofs.Resuming.{Resumes, cancel, past_none}
 
-pub all_append : (a b : List Token) → list_all may_stand a ≡ true → list_all may_stand b ≡ true → list_all may_stand (a ++ b) ≡ true
-all_append a b e f = list_all-append may_stand a b ∙ ap (λ c. c && list_all may_stand b) e ∙ f
+pub all_append : (a b : List Token) → list_all is_proper a ≡ true → list_all is_proper b ≡ true → list_all is_proper (a ++ b) ≡ true
+all_append a b e f = list_all-append is_proper a b ∙ ap (λ c. c && list_all is_proper b) e ∙ f
 
 -- what stands behind a word of B may follow a word of A, and so may what B's words begin with
 abbrev pub LeadsOn : {W : Type 0} → Follow → Lang W → Follow → Type 0
@@ -90,7 +91,7 @@ behind_first F t words A left = record {
 pub behind_none : {V : Type 0} (F : Follow) (A : Lang V) (left : List Token) → Resumes F (Behind [] A) [] A (λ v. v) left
 behind_none F A left = behind_resumes F [] A left
 
-pub behind_some : {V : Type 0} (words : List Token) (A : Lang V) → list_all may_stand words ≡ true → Viable A [] → Viable (Behind words A) []
+pub behind_some : {V : Type 0} (words : List Token) (A : Lang V) → list_all is_proper words ≡ true → Viable A [] → Viable (Behind words A) []
 behind_some words A e s = record {
   more = words ++ s.more;
   value = s.value;
@@ -100,7 +101,7 @@ behind_some words A e s = record {
 
 -- another token than the first
 pub behind_stuck : {V : Type 0} (F : Follow) (t : Token) (words : List Token) (A : Lang V) (old : Placed)
-    → list_all may_stand (t ∷ words) ≡ true → Viable A [] → (next old ≡ t → ⊥) → StuckAt F (Behind (t ∷ words) A) old old
+    → list_all is_proper (t ∷ words) ≡ true → Viable A [] → (next old ≡ t → ⊥) → StuckAt F (Behind (t ∷ words) A) old old
 behind_stuck F t words A old e s other = record {
   read = [];
   past = past_none old;
@@ -108,7 +109,7 @@ behind_stuck F t words A old e s other = record {
   dead = λ w v x y n o d. other (sym (cc (d, ap (λ l. l ++ x) n.tokens)));
 }
 
-pub behind_lawful : {V : Type 0} (F : Follow) (words : List Token) (A : Lang V) → list_all may_stand words ≡ true → Lawful F A → Lawful F (Behind words A)
+pub behind_lawful : {V : Type 0} (F : Follow) (words : List Token) (A : Lang V) → list_all is_proper words ≡ true → Lawful F A → Lawful F (Behind words A)
 behind_lawful F words A e law = record {
   same = λ a b x y v w s t o p d.
       let one = law.same s.rest t.rest x y v w s.word t.word o p (cancel words _ _ (sym (append_assoc words s.rest x) ∙ ap (λ l. l ++ x) (sym s.tokens) ∙ d
@@ -137,7 +138,7 @@ ended_resumes F G A t words g old mid a law k = record {
       (t ∷ words, v, (refl, s.1), n.tokens ∙ ap (λ l. l ++ (t ∷ words)) s.0, refl);
 }
 
-pub ended_stuck : {V : Type 0} (F G : Follow) (A : Lang V) (t : Token) (words : List Token) → G t ≡ true → list_all may_stand (t ∷ words) ≡ true
+pub ended_stuck : {V : Type 0} (F G : Follow) (A : Lang V) (t : Token) (words : List Token) → G t ≡ true → list_all is_proper (t ∷ words) ≡ true
     → (old new : Placed) → StuckAt G A old new → StuckAt F (Ended A (t ∷ words)) old new
 ended_stuck F G A t words g e old new s = record {
   read = s.read;
@@ -152,7 +153,7 @@ ended_stuck F G A t words g e old new s = record {
       (sym (append_assoc n.first (t ∷ words) x) ∙ ap (λ l. l ++ x) (sym n.tokens) ∙ d);
 }
 
-pub ended_lawful : {V : Type 0} (F G : Follow) (A : Lang V) (t : Token) (words : List Token) → G t ≡ true → list_all may_stand (t ∷ words) ≡ true
+pub ended_lawful : {V : Type 0} (F G : Follow) (A : Lang V) (t : Token) (words : List Token) → G t ≡ true → list_all is_proper (t ∷ words) ≡ true
     → Lawful G A → Lawful F (Ended A (t ∷ words))
 ended_lawful F G A t words g e law = record {
   same = λ a b x y v w s k o p d.
@@ -180,7 +181,7 @@ says_first F t words v left = record {
 }
 
 pub says_stuck : {V : Type 0} (F : Follow) (t : Token) (words : List Token) (v : V) (old : Placed)
-    → list_all may_stand (t ∷ words) ≡ true → (next old ≡ t → ⊥) → StuckAt F (Says (t ∷ words) v) old old
+    → list_all is_proper (t ∷ words) ≡ true → (next old ≡ t → ⊥) → StuckAt F (Says (t ∷ words) v) old old
 says_stuck F t words v old e other = record {
   read = [];
   past = past_none old;

@@ -1,8 +1,9 @@
 -- Lists with a mark between their elements, and a token at their end.
 use Rattle.std.proofs.Common.{◌≡◌, ℕ, true, ◌&&◌, List, [], ◌∷◌, ◌++◌, refl, sym, ap, ◌∙◌, append_assoc, subst, inl, inr}
 use Rattle.hhas_lex.specs.Tokens.{Token, Mark}
+use Rattle.hhas_lex.specs.Spelling.{is_proper}
 use Rattle.hhbc_repo.specs.Languages.{Lang, Says, Behind, Ended, Both, Either, Separated}
-use Rattle.hhas_read.specs.Reading.{Placed, Past, Follow, Viable, StuckAt, Taken, next, may_stand}
+use Rattle.hhas_read.specs.Reading.{Placed, Past, Follow, Viable, StuckAt, Taken, next}
 use Rattle.hhas_read.proofs.Resuming.{Resumes, past_none, past_on, resumes_same, resumes_then}
 
 module _ {V : Type 0} (mark : ℕ) (A : Lang V) (end : Token) where
@@ -46,11 +47,11 @@ module _ {V : Type 0} (mark : ℕ) (A : Lang V) (end : Token) where
         refl,
       )
 
-  pub left_some : may_stand end ≡ true → Viable Left []
+  pub left_some : is_proper end ≡ true → Viable Left []
   left_some e = record { more = end ∷ []; value = []; word = inl (refl, refl); proper = ap (λ c. c && true) e }
 
   -- neither the mark nor the end
-  pub left_stuck : (F : Follow) → may_stand end ≡ true → (p : Placed) → (next p ≡ Mark mark → ⊥) → (next p ≡ end → ⊥) → StuckAt F Left p p
+  pub left_stuck : (F : Follow) → is_proper end ≡ true → (p : Placed) → (next p ≡ Mark mark → ⊥) → (next p ≡ end → ⊥) → StuckAt F Left p p
   left_stuck F e p no_mark no_end = record {
     read = [];
     past = past_none p;

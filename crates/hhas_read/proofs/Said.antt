@@ -5,8 +5,6 @@ use Rattle.hhas_lex.specs.Tokens.{Token}
 use Rattle.hhas_read.specs.declared.reader.Piece.{Piece}
 use Rattle.hhas_read.specs.declared.reader.Piece.TheVariants as pieces
 use Rattle.hhas_read.specs.Pieces.{Says}
-use Rattle.hhas_read.specs.Reading.{may_stand}
-use Rattle.hhas_lex.specs.Spelling.{is_proper}
 
 pub not_word : (p : Piece) (t : Token) → Says p t → ((b : Bor (List ℕ)) → p ≡ pieces.Word b → ⊥) → (w : List ℕ) → t ≡ tokens.Word w → ⊥
 not_word (pieces.Directive b) t s n w e = absurd (cc (s, e))
@@ -104,16 +102,3 @@ same_directive i j e = cc e
 
 pub same_string : (i j : List ℕ) → tokens.Str i ≡ tokens.Str j → i ≡ j
 same_string i j e = cc e
-
--- ---- what is proper stands in some text
-
-pub proper_stands : (t : Token) → is_proper t ≡ true → may_stand t ≡ true
-proper_stands (tokens.Directive w) e = e
-proper_stands (tokens.Word w) e = e
-proper_stands (tokens.Local w) e = e
-proper_stands (tokens.Integer w) e = e
-proper_stands (tokens.Str w) e = e
-proper_stands (tokens.Mark w) e = e
-proper_stands tokens.LessEqual e = refl
-proper_stands tokens.End e = refl
-proper_stands tokens.Bad e = e

@@ -1,12 +1,13 @@
 -- The arms of switches on strings.
 use Rattle.std.proofs.Common.{◌≡◌, ℕ, true, ◌&&◌, List, [], ◌∷◌, ◌++◌, refl, sym, ap, ◌∙◌, append_assoc, codes, subst, Some, Err}
 use Rattle.hhas_lex.specs.Tokens.{Token, Word, Str, Mark, front}
+use Rattle.hhas_lex.specs.Spelling.{is_proper}
 use Rattle.hhbc_repo.specs.declared.parts.ArmParts.{ArmParts}
 use Rattle.hhbc_repo.specs.Languages.{Lang, Behind, Both, Ended}
 use Rattle.hhbc_repo.specs.CodeSyntax.{ALabel, AString, AStringArm}
 use Rattle.hhas_read.specs.declared.reader.Stop.{Stop}
 use Rattle.hhas_read.specs.Arms.{StringArmsToEnd, TargetTo}
-use Rattle.hhas_read.specs.Reading.{Placed, Past, Reads, Taken, Viable, any, may_stand, next}
+use Rattle.hhas_read.specs.Reading.{Placed, Past, Reads, Taken, Viable, any, next}
 use Rattle.hhas_read.proofs.Resuming.{Resumes, past_none, past_on, resumes_same, resumes_then, stop_lifts}
 use Rattle.hhas_read.proofs.Joining.{Lawful, behind_lawful, behind_resumes, both_lawful, both_resumes, ended_lawful}
 use Rattle.hhas_read.proofs.OneToken.{single_lawful}
@@ -17,7 +18,7 @@ use Rattle.hhas_read.proofs.Reserved.{a_label}
 use Rattle.hhas_read.proofs.ArmForms.{label_lawful, plain_arm}
 use Rattle.hhas_read.proofs.Runs.{Run, first_of, run_ends, run_next, run_some}
 
-pub target_lawful : (end : ℕ) → may_stand (Mark end) ≡ true → Lawful any (TargetTo end)
+pub target_lawful : (end : ℕ) → is_proper (Mark end) ≡ true → Lawful any (TargetTo end)
 target_lawful end e =
     behind_lawful any (Mark 58 ∷ []) (Ended ALabel (Mark end ∷ [])) refl (ended_lawful any any ALabel (Mark end) [] refl (ap (λ c. c && true) e) label_lawful)
 
@@ -205,7 +206,7 @@ default_next start old mid arms inv is past =
           one (behind_resumes any (Word (codes "default") ∷ []) (TargetTo 62) mid.tokens) here.tokens,
     )
 
-pub some_label_to : (end : ℕ) → may_stand (Mark end) ≡ true → Viable (Ended ALabel (Mark end ∷ [])) []
+pub some_label_to : (end : ℕ) → is_proper (Mark end) ≡ true → Viable (Ended ALabel (Mark end ∷ [])) []
 some_label_to end e = record {
   more = Word (codes "a") ∷ Mark end ∷ [];
   value = codes "a";
@@ -213,7 +214,7 @@ some_label_to end e = record {
   proper = ap (λ c. c && true) e;
 }
 
-pub some_target : (end : ℕ) → may_stand (Mark end) ≡ true → Viable (TargetTo end) []
+pub some_target : (end : ℕ) → is_proper (Mark end) ≡ true → Viable (TargetTo end) []
 some_target end e = record {
   more = Mark 58 ∷ Word (codes "a") ∷ Mark end ∷ [];
   value = codes "a";

@@ -2,7 +2,7 @@
 -- are the front of no word.
 use Rattle.std.specs.Prelude.{◌≡◌, ℕ, Bool, true, false, List, [], ◌∷◌, ◌++◌, length, drop, Result, Ok, Err}
 use Rattle.std.specs.List.{list_all}
-use Rattle.hhas_lex.specs.Tokens.{Token, End, Mark, Word, front}
+use Rattle.hhas_lex.specs.Tokens.{Token, Mark, Word, front}
 use Rattle.hhas_lex.specs.Spelling.{is_proper}
 use Rattle.hhbc_repo.specs.CodeSyntax.{ALocal}
 use Rattle.hhbc_repo.specs.Languages.{Lang, Behind, Ended, Says, Separated}
@@ -29,17 +29,12 @@ Follow = Token → Bool
 abbrev pub any : Follow
 any t = true
 
--- what stands in some text
-abbrev pub may_stand : Token → Bool
-may_stand End = true
-may_stand t = is_proper t
-
 -- tokens lead on from these to a word
 pub record Viable {V : Type 0} (N : Lang V) (ts : List Token) : Type 0 where
   pub more : List Token
   pub value : V
   pub word : N (ts ++ more) value
-  pub proper : list_all may_stand more ≡ true
+  pub proper : list_all is_proper more ≡ true
 
 -- no word, followed as it may be, begins with the tokens
 abbrev pub Dead : {V : Type 0} → Follow → Lang V → List Token → Type 0

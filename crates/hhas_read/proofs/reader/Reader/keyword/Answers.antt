@@ -3,11 +3,10 @@ use Rattle.hhas_lex.specs.Tokens.{Word}
 use Rattle.hhas_read.specs.Pieces.{IsInner}
 use Rattle.hhas_read.specs.Reading.{any}
 use Rattle.hhas_read.proofs.OneToken.{just_stuck, just_taken}
-use Rattle.hhas_read.proofs.Said.{proper_stands}
 use Rattle.hhas_read.proofs.reader.Reader.keyword.Goals as goal
 
 pub returns-then-not-is_word : goal.returns-then-not-is_word
-returns-then-not-is_word c = just_stuck any (Word c.args.name.now) (proper_stands (Word c.args.name.now) c.requires) c.args.self.now c.if-not-is_word.ensures
+returns-then-not-is_word c = just_stuck any (Word c.args.name.now) c.requires c.args.self.now c.if-not-is_word.ensures
 
 pub skip-requires : goal.skip-requires
 skip-requires c = subst IsInner (sym c.if-not-is_word.ensures) tt

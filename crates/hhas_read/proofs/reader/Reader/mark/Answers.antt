@@ -3,11 +3,10 @@ use Rattle.hhas_lex.specs.Tokens.{Mark}
 use Rattle.hhas_read.specs.Pieces.{IsInner}
 use Rattle.hhas_read.specs.Reading.{any}
 use Rattle.hhas_read.proofs.OneToken.{just_stuck, just_taken}
-use Rattle.hhas_read.proofs.Said.{proper_stands}
 use Rattle.hhas_read.proofs.reader.Reader.mark.Goals as goal
 
 pub returns-then-not-is_mark : goal.returns-then-not-is_mark
-returns-then-not-is_mark c = just_stuck any (Mark c.args.byte) (proper_stands (Mark c.args.byte) c.requires) c.args.self.now c.if-not-is_mark.ensures
+returns-then-not-is_mark c = just_stuck any (Mark c.args.byte) c.requires c.args.self.now c.if-not-is_mark.ensures
 
 pub skip-requires : goal.skip-requires
 skip-requires c = subst IsInner (sym c.if-not-is_mark.ensures) tt

@@ -4,7 +4,6 @@ use Rattle.hhbc_repo.specs.Languages.{Ended}
 use Rattle.hhbc_repo.specs.CodeSyntax.{ALabel}
 use Rattle.hhas_read.specs.Arms.{TargetTo}
 use Rattle.hhas_read.specs.Reading.{Past, any}
-use Rattle.hhas_read.proofs.Said.{proper_stands}
 use Rattle.hhas_read.proofs.Resuming.{reads_on}
 use Rattle.hhas_read.proofs.Joining.{behind_resumes, behind_stuck}
 use Rattle.hhas_read.proofs.StringArmForms.{some_label_to}
@@ -13,7 +12,7 @@ use Rattle.hhas_read.proofs.reader.Reader.target_to.Goals as goal
 pub returns-then-not-is_mark : goal.returns-then-not-is_mark
 returns-then-not-is_mark c =
     let end = c.args.end in
-    behind_stuck any (Mark 58) [] (Ended ALabel (Mark end ∷ [])) c.args.self.now refl (some_label_to end (proper_stands (Mark end) c.requires)) c.if-not-is_mark.ensures
+    behind_stuck any (Mark 58) [] (Ended ALabel (Mark end ∷ [])) c.args.self.now refl (some_label_to end c.requires) c.if-not-is_mark.ensures
 
 pub returns : goal.returns
 returns c =
