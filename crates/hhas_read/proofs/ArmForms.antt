@@ -51,10 +51,10 @@ ArmsLeft = Run AnArm AngleEnd
 pub some_left : Viable ArmsLeft []
 some_left = run_some AnArm AngleEnd (just_lawful any (Mark 62) refl).some
 
-abbrev all_of : ArmParts × (List ArmParts × Unit {0}) → List ArmParts
+abbrev pub all_of : ArmParts × (List ArmParts × Unit {0}) → List ArmParts
 all_of p = p.0 ∷ p.1.0
 
-arms_resume : (left : List Token) → Resumes any ArmsToEnd [] (Both AnArm ArmsLeft) all_of left
+pub arms_resume : (left : List Token) → Resumes any ArmsToEnd [] (Both AnArm ArmsLeft) all_of left
 arms_resume left = record { on = λ ts u m. on ts u.0 u.1.0 m; back = λ w v x y n o h e. back w v n }
   where
     on : (ts : List Token) (a : ArmParts) (more : List ArmParts) → Both AnArm ArmsLeft ts (a, (more, tt)) → ArmsToEnd ts (a ∷ more)
@@ -111,7 +111,7 @@ pub arm_next : (start old mid : Placed) (arms more : List ArmParts) (a : ArmPart
 arm_next start old mid arms more a inv t other pushed =
     let far = arm_taken start old mid arms a inv t in
     let step = resumes_then any ArmsToEnd ArmsLeft (Both AnArm ArmsLeft) far.0 [] mid.tokens mid.tokens (λ p. arms ++ (a ∷ p.0)) (first_of AnArm AngleEnd)
-    far.2 (run_next AnArm AngleEnd mid.tokens (no_end (next mid) other)) refl in (
+    far.2 (run_next any AnArm AngleEnd mid.tokens (no_end (next mid) other)) refl in (
       far.0 ++ [],
       past_on far.1 (past_none mid),
       resumes_same any ArmsToEnd (Both AnArm ArmsLeft) (far.0 ++ []) mid.tokens (λ p. arms ++ (a ∷ (p.0 ∷ p.1.0))) (λ p. more ++ (p.0 ∷ p.1.0))
@@ -124,7 +124,7 @@ pub arms_end : (start old mid new : Placed) (arms more : List ArmParts) (a : Arm
 arms_end start old mid new arms more a inv t is past pushed =
     let far = arm_taken start old mid arms a inv t in
     let step = resumes_then any ArmsToEnd ArmsLeft AngleEnd far.0 [] mid.tokens mid.tokens (λ p. arms ++ (a ∷ p.0)) (λ u. ([], u))
-    far.2 (run_ends AnArm AngleEnd mid.tokens (no_arm (next mid) is)) refl in
+    far.2 (run_ends any any AnArm AngleEnd (λ b v x n o. refl) mid.tokens (no_arm (next mid) is)) refl in
     subst (Taken any ArmsToEnd start new) (sym pushed)
     (taken_lifts any ArmsToEnd AngleEnd start mid new (far.0 ++ []) (λ u. arms ++ (a ∷ [])) tt step (past_on far.1 (past_none mid))
     (just_taken any (Mark 62) mid new is past refl))

@@ -11,7 +11,7 @@ use Rattle.hhbc_repo.specs.declared.parts.BaseParts.{BaseParts}
 use Rattle.hhbc_repo.specs.declared.parts.BaseParts.TheVariants as bases
 use Rattle.hhbc_repo.specs.Languages.{Lang, Behind}
 use Rattle.hhbc_repo.specs.CodeSyntax.{ABase, ADim, AKey, ALocal, AnIndex, AString, AnInteger, AWord, QueryKey}
-use Rattle.hhas_read.specs.Reading.{Just, Tagged, any}
+use Rattle.hhas_read.specs.Reading.{Follow, Just, Tagged, any}
 use Rattle.hhas_read.proofs.Reserved.{never_both}
 use Rattle.hhas_read.proofs.Said.{same_word, same_local, same_integer, same_string}
 use Rattle.hhas_read.proofs.Joining.{Lawful, behind_lawful}
@@ -21,17 +21,23 @@ use Rattle.hhas_read.proofs.Operands.{index_lawful}
 use Rattle.hhas_read.proofs.KeyForms.{key_word, key_begins, some_query_key, elem_stack, elem_local, elem_text, elem_int, prop_stack, prop_local, prop_name, nullsafe_name, append}
 
 -- one word is of a form, and so is the other
-pub form_same : {V W : Type 0} (N : Lang V) (word : V → List ℕ) (M : Lang W) (f : W → V) (name : List ℕ) → Begins word N → Form word f name
-    → ((w : List Token) (u : W) → N w (f u) → M w u) → Lawful any M
-    → (a b x y : List Token) (u : W) (v : V) → word (f u) ≡ name → N a (f u) → N b v → a ++ x ≡ b ++ y → (a ≡ b) × (f u ≡ v)
-form_same {V} {W} N word M f name begins form off law a b x y u v is n m e = by (form v)
+pub form_same_before : {V W : Type 0} (F : Follow) (N : Lang V) (word : V → List ℕ) (M : Lang W) (f : W → V) (name : List ℕ) → Begins word N → Form word f name
+    → ((w : List Token) (u : W) → N w (f u) → M w u) → Lawful F M
+    → (a b x y : List Token) (u : W) (v : V) → word (f u) ≡ name → N a (f u) → N b v → F (front x) ≡ true → F (front y) ≡ true → a ++ x ≡ b ++ y → (a ≡ b) × (f u ≡ v)
+form_same_before {V} {W} F N word M f name begins form off law a b x y u v is n m o p e = by (form v)
   where
     by : ((z : W) × (v ≡ f z)) ⊎ (bytes_eq (word v) name ≡ false) → (a ≡ b) × (f u ≡ v)
     by (inl made) =
-        let s = law.same a b x y u made.0 (off a u n) (off b made.0 (subst (N b) made.1 m)) refl refl e in
+        let s = law.same a b x y u made.0 (off a u n) (off b made.0 (subst (N b) made.1 m)) o p e in
         (s.0, ap f s.1 ∙ sym made.1)
     by (inr d) =
         absurd (never_both (sym ((bytes_eq-Decides (word v) name).1 (same_word (word v) name (sym (begins b v y m) ∙ ap front (sym e) ∙ begins a (f u) x n ∙ ap Word is))) ∙ d))
+
+-- whatever follows
+pub form_same : {V W : Type 0} (N : Lang V) (word : V → List ℕ) (M : Lang W) (f : W → V) (name : List ℕ) → Begins word N → Form word f name
+    → ((w : List Token) (u : W) → N w (f u) → M w u) → Lawful any M
+    → (a b x y : List Token) (u : W) (v : V) → word (f u) ≡ name → N a (f u) → N b v → a ++ x ≡ b ++ y → (a ≡ b) × (f u ≡ v)
+form_same N word M f name begins form off law a b x y u v is n m e = form_same_before any N word M f name begins form off law a b x y u v is n m refl refl e
 
 pub tagged_lawful : {W : Type 0} (name : List ℕ) (A : Lang W) → list_all is_proper (Word name ∷ Mark 58 ∷ []) ≡ true → Lawful any A → Lawful any (Tagged name A)
 tagged_lawful name A e law = behind_lawful any (Word name ∷ Mark 58 ∷ []) A e law
@@ -39,7 +45,7 @@ tagged_lawful name A e law = behind_lawful any (Word name ∷ Mark 58 ∷ []) A 
 pub local_lawful : Lawful any ALocal
 local_lawful = single_lawful Local any (codes "a") refl same_local
 
-key_same : (a b x y : List Token) (k l : MemberKeyParts) → AKey a k → AKey b l → a ++ x ≡ b ++ y → (a ≡ b) × (k ≡ l)
+pub key_same : (a b x y : List Token) (k l : MemberKeyParts) → AKey a k → AKey b l → a ++ x ≡ b ++ y → (a ≡ b) × (k ≡ l)
 key_same a b x y (keys.ElemStack i) l n m e =
     form_same AKey key_word (Tagged (codes "EC") AnIndex) keys.ElemStack (codes "EC") key_begins elem_stack (λ w u n. n) (tagged_lawful (codes "EC") AnIndex refl index_lawful) a b x y i l refl n m e
 key_same a b x y (keys.ElemLocal u) l n m e =
@@ -59,7 +65,7 @@ key_same a b x y (keys.NullsafeName u) l n m e =
 key_same a b x y keys.Append l n m e =
     form_same AKey key_word (Just (Word (codes "W"))) (λ u. keys.Append) (codes "W") key_begins append (λ w u n. n) (just_lawful any (Word (codes "W")) refl) a b x y tt l refl n m e
 
-query_key_lawful : Lawful any QueryKey
+pub query_key_lawful : Lawful any QueryKey
 query_key_lawful = record { same = λ a b x y v w n m o p e. key_same a b x y v w n.0 m.0 e; some = some_query_key }
 
 pub dim_lawful : Lawful any ADim
@@ -67,12 +73,12 @@ dim_lawful = behind_lawful any (Word (codes "Dim") ∷ []) QueryKey refl query_k
 
 -- ---- bases
 
-abbrev base_word : BaseParts → List ℕ
+abbrev pub base_word : BaseParts → List ℕ
 base_word (bases.Local u) = codes "BaseL"
 base_word (bases.Stack i) = codes "BaseC"
 base_word bases.This = codes "BaseH"
 
-base_begins : (w : List Token) (b : BaseParts) (x : List Token) → ABase w b → front (w ++ x) ≡ Word (base_word b)
+pub base_begins : (w : List Token) (b : BaseParts) (x : List Token) → ABase w b → front (w ++ x) ≡ Word (base_word b)
 base_begins w (bases.Local u) x n = ap (λ l. front (l ++ x)) n.tokens
 base_begins w (bases.Stack i) x n = ap (λ l. front (l ++ x)) n.tokens
 base_begins w bases.This x n = ap (λ l. front (l ++ x)) n

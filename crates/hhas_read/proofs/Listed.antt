@@ -18,6 +18,16 @@ module _ {V : Type 0} (mark : ℕ) (A : Lang V) (end : Token) where
   abbrev pub first_and_more : V × List V → List V
   first_and_more p = p.0 ∷ p.1
 
+  pub listed_split : (w : List Token) (v : V) (vs : List V) → Listed w (v ∷ vs) → Both A Left w (v, vs)
+  listed_split w v [] n = record { first = n.first; second = end ∷ []; left = n.word; right = inl (refl, refl); tokens = n.tokens }
+  listed_split w v (u ∷ vs) n = record {
+    first = n.word.0;
+    second = Mark mark ∷ (n.word.1 ++ (end ∷ []));
+    left = n.word.2;
+    right = inr (record { rest = n.word.1 ++ (end ∷ []); word = record { first = n.word.1; word = n.word.3; tokens = refl }; tokens = refl });
+    tokens = n.tokens ∙ ap (λ z. z ++ (end ∷ [])) n.word.4 ∙ append_assoc n.word.0 (Mark mark ∷ n.word.1) (end ∷ []);
+  }
+
   pub listed_resumes : (F : Follow) (left : List Token) → Resumes F Listed [] (Both A Left) first_and_more left
   listed_resumes F left = record { on = λ ts u m. on ts u.0 u.1 m.first m.second m.left m.right m.tokens; back = λ w v x y n o h e. back w v n }
     where
@@ -32,20 +42,7 @@ module _ {V : Type 0} (mark : ℕ) (A : Lang V) (end : Token) where
 
       back : (w : List Token) (v : List V) → Listed w v → (ts : List Token) × (u : V × List V) × Both A Left ts u × (w ≡ ts) × (v ≡ first_and_more u)
       back w [] n = absurd n.word
-      back w (v ∷ []) n = (w, (v, []), record { first = n.first; second = end ∷ []; left = n.word; right = inl (refl, refl); tokens = n.tokens }, refl, refl)
-      back w (v ∷ u ∷ vs) n = (
-        w,
-        (v, u ∷ vs),
-        record {
-          first = n.word.0;
-          second = Mark mark ∷ (n.word.1 ++ (end ∷ []));
-          left = n.word.2;
-          right = inr (record { rest = n.word.1 ++ (end ∷ []); word = record { first = n.word.1; word = n.word.3; tokens = refl }; tokens = refl });
-          tokens = n.tokens ∙ ap (λ z. z ++ (end ∷ [])) n.word.4 ∙ append_assoc n.word.0 (Mark mark ∷ n.word.1) (end ∷ []);
-        },
-        refl,
-        refl,
-      )
+      back w (v ∷ vs) n = (w, (v, vs), listed_split w v vs n, refl, refl)
 
   pub left_some : is_proper end ≡ true → Viable Left []
   left_some e = record { more = end ∷ []; value = []; word = inl (refl, refl); proper = ap (λ c. c && true) e }

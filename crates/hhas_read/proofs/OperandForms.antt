@@ -9,28 +9,42 @@ use Rattle.hhbc_ops.specs.declared.words.IsTypeOp.{IsTypeOp}
 use Rattle.hhbc_repo.specs.declared.parts.ArmParts.{ArmParts}
 use Rattle.hhbc_repo.specs.declared.parts.ImmParts.{ImmParts}
 use Rattle.hhbc_repo.specs.declared.parts.ImmParts.TheVariants as imms
+use Rattle.hhbc_repo.specs.declared.parts.TypeParts.{TypeParts}
 use Rattle.hhbc_repo.specs.Languages.{Lang, Behind}
 use Rattle.hhbc_repo.specs.CodeSyntax.{AChange, ALabel, ALocal, AnIndex, AnInteger, ASetOp, AString, AWord, IterLocals, Operand}
+use Rattle.hhbc_repo.specs.TypeSyntax.{AConstraint}
 use Rattle.hhas_read.specs.Arms.{ArmsToEnd, StringArmsToEnd}
 use Rattle.hhas_read.specs.OneWord.{AnIsType}
 use Rattle.hhas_read.specs.declared.reader.Stop.{Stop}
-use Rattle.hhas_read.specs.Reading.{Placed, Reads, any}
-use Rattle.hhas_read.proofs.Resuming.{past_none, stop_lifts}
+use Rattle.hhas_read.specs.Kinds.{after}
+use Rattle.hhas_read.specs.Reading.{Follow, Placed, Reads, Taken}
+use Rattle.hhas_read.proofs.Resuming.{Resumes, past_none, stop_lifts, taken_lifts}
+use Rattle.hhas_read.proofs.Joining.{Lawful}
+use Rattle.hhas_read.proofs.Making.{made_lawful}
 
 -- the operands of the kind are the words of A
 abbrev pub Spelled : {V : Type 0} → ImmKind → Lang V → (V → ImmParts) → Type 0
 Spelled {V} kind A f = ((w : List Token) (v : V) → A w v → Operand kind w (f v)) × ((w : List Token) (m : ImmParts) → Operand kind w m → (v : V) × A w v × (m ≡ f v))
 
-pub operand_stops : {V : Type 0} (kind : ImmKind) (A : Lang V) (f : V → ImmParts) → Spelled kind A f → (old new : Placed) (e : Stop) → Reads any A old (Err e) new
-    → Reads any (Operand kind) old (Err e) new
-operand_stops kind A f s old new e r =
-    stop_lifts any (Operand kind) A old old new [] f e
-    (record { on = λ ts u m. s.0 ts u m; back = λ w v x y n o h d. let b = s.1 w v n in (w, b.0, b.1, refl, b.2) }) (past_none old) r
+spelled_resumes : {V : Type 0} (F : Follow) (kind : ImmKind) (A : Lang V) (f : V → ImmParts) → Spelled kind A f → (left : List Token) → Resumes F (Operand kind) [] A f left
+spelled_resumes F kind A f s left = record { on = λ ts u m. s.0 ts u m; back = λ w v x y n o h d. let b = s.1 w v n in (w, b.0, b.1, refl, b.2) }
 
--- the same, for a kind that is this one
+-- an operand of a kind that is this one
 pub kind_stops : {V : Type 0} (kind one : ImmKind) → kind ≡ one → (A : Lang V) (f : V → ImmParts) → Spelled one A f → (old new : Placed) (e : Stop)
-    → Reads any A old (Err e) new → Reads any (Operand kind) old (Err e) new
-kind_stops kind one is A f s old new e r = subst (λ k. Reads any (Operand k) old (Err e) new) (sym is) (operand_stops one A f s old new e r)
+    → Reads (after one) A old (Err e) new → Reads (after kind) (Operand kind) old (Err e) new
+kind_stops kind one is A f s old new e r =
+    subst (λ k. Reads (after k) (Operand k) old (Err e) new) (sym is)
+    (stop_lifts (after one) (Operand one) A old old new [] f e (spelled_resumes (after one) one A f s old.tokens) (past_none old) r)
+
+pub kind_taken : {V : Type 0} (kind one : ImmKind) → kind ≡ one → (A : Lang V) (f : V → ImmParts) → Spelled one A f → (old new : Placed) (v : V)
+    → Taken (after one) A old new v → Taken (after kind) (Operand kind) old new (f v)
+kind_taken kind one is A f s old new v t =
+    subst (λ k. Taken (after k) (Operand k) old new (f v)) (sym is)
+    (taken_lifts (after one) (Operand one) A old old new [] f v (spelled_resumes (after one) one A f s old.tokens) (past_none old) t)
+
+pub spelled_lawful : {V : Type 0} (F : Follow) (kind : ImmKind) (A : Lang V) (f : V → ImmParts) → Spelled kind A f → Lawful F A → Lawful F (Operand kind)
+spelled_lawful F kind A f s law =
+    made_lawful F (Operand kind) A f (spelled_resumes F kind A f s) law
 
 pub int : Spelled kinds.Int AnInteger imms.Int
 int = (λ w v n. n, back)
@@ -131,4 +145,11 @@ locals = (λ w v n. n, back)
   where
     back : (w : List Token) (m : ImmParts) → Operand kinds.IterLocals w m → (v : Option (List ℕ) × List ℕ) × IterLocals w v × (m ≡ iter_operand v)
     back w (imms.IterLocals k v) n = ((k, v), n, refl)
+    back w _ n = absurd n
+
+pub constraint : Spelled kinds.Constraint AConstraint imms.Constraint
+constraint = (λ w v n. n, back)
+  where
+    back : (w : List Token) (m : ImmParts) → Operand kinds.Constraint w m → (v : TypeParts) × AConstraint w v × (m ≡ imms.Constraint v)
+    back w (imms.Constraint v) n = (v, n, refl)
     back w _ n = absurd n

@@ -1,5 +1,5 @@
 -- Operands stand apart from what follows, and have one value.
-use Rattle.std.proofs.Common.{◌≡◌, ℕ, [], ◌∷◌, ◌++◌, refl, sym, ap, ◌∙◌, pos, lit≤, Some}
+use Rattle.std.proofs.Common.{◌≡◌, ℕ, [], ◌∷◌, ◌++◌, refl, sym, ap, ◌∙◌, pos, arith, Some}
 use Rattle.hhas_lex.specs.Tokens.{Integer, Word}
 use Rattle.hhbc_ops.specs.declared.words.QueryMode.{QueryMode}
 use Rattle.hhbc_ops.specs.declared.words.QueryMode.TheVariants as modes
@@ -9,7 +9,7 @@ use Rattle.hhbc_ops.specs.declared.words.IncDecOp.{IncDecOp}
 use Rattle.hhbc_ops.specs.declared.words.IncDecOp.TheVariants as changes
 use Rattle.hhbc_ops.specs.Words.{set_op_name, inc_dec_name, query_mode_name}
 use Rattle.hhbc_ops.proofs.Names.{set_op_found, inc_dec_found, query_mode_found}
-use Rattle.hhbc_repo.specs.CodeSyntax.{AChange, AMode, AnIndex, ASetOp}
+use Rattle.hhbc_repo.specs.CodeSyntax.{AChange, AMode, AnIndex, ASetOp, UpTo}
 use Rattle.hhas_read.specs.Reading.{any}
 use Rattle.hhas_read.proofs.Joining.{Lawful}
 use Rattle.hhas_read.proofs.OneToken.{single_lawful}
@@ -18,16 +18,19 @@ use Rattle.hhas_read.proofs.Said.{same_integer, same_word}
 same_pos : (i j : ℕ) → pos i ≡ pos j → i ≡ j
 same_pos i j e = cc e
 
-same_some : {A : Type 0} (a b : A) → Some a ≡ Some b → a ≡ b
+pub same_some : {A : Type 0} (a b : A) → Some a ≡ Some b → a ≡ b
 same_some a b e = cc e
 
-pub index_lawful : Lawful any AnIndex
-index_lawful = record {
+pub number_lawful : (most : ℕ) → Lawful any (UpTo most)
+number_lawful most = record {
   same = λ a b x y u w n m o p d.
       let s = same_pos u w (same_integer (pos u) (pos w) (cc (d, ap (λ l. l ++ x) n.0, ap (λ l. l ++ y) m.0))) in
       (n.0 ∙ ap (λ z. Integer (pos z) ∷ []) s ∙ sym m.0, s);
-  some = record { more = Integer (pos 0) ∷ []; value = 0; word = (refl, lit≤ tt); proper = refl };
+  some = record { more = Integer (pos 0) ∷ []; value = 0; word = (refl, omega arith); proper = refl };
 }
+
+pub index_lawful : Lawful any AnIndex
+index_lawful = number_lawful 254
 
 same_mode : (a b : QueryMode) → Word (query_mode_name a) ≡ Word (query_mode_name b) → a ≡ b
 same_mode a b e =

@@ -1,5 +1,5 @@
 -- What the next token isn't, where the piece isn't of a kind.
-use Rattle.std.proofs.Common.{◌≡◌, ℕ, ℤ, true, List, refl, Bor}
+use Rattle.std.proofs.Common.{◌≡◌, ℕ, ℤ, List, refl, Bor}
 use Rattle.hhas_lex.specs.Tokens as tokens
 use Rattle.hhas_lex.specs.Tokens.{Token}
 use Rattle.hhas_read.specs.declared.reader.Piece.{Piece}

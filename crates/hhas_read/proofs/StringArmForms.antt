@@ -147,7 +147,7 @@ texts_back w (a ∷ b ∷ more) n =
       ap (λ l. a ∷ l) r.2,
     )
 
-texts_resume : (left : List Token) → Resumes any StringArmsToEnd [] Texts with_default left
+pub texts_resume : (left : List Token) → Resumes any StringArmsToEnd [] Texts with_default left
 texts_resume left = record {
   on = λ ts u m. texts_on ts u.0 u.1 m;
   back = λ w v x y n o h e. let r = texts_back w v n in (w, r.0, r.1, refl, r.2);
@@ -172,7 +172,7 @@ text_next : (start old : Placed) (arms : List ArmParts) → (inv : TextsTaken st
     → Resumes any StringArmsToEnd (inv.0 ++ []) (Both AStringArm Texts) (λ p. arms ++ (p.0 ∷ with_default p.1)) old.tokens
 text_next start old arms inv other =
     resumes_then any StringArmsToEnd Texts (Both AStringArm Texts) inv.0 [] old.tokens old.tokens (λ p. arms ++ with_default p) (first_of AStringArm Default)
-    inv.2 (run_next AStringArm Default old.tokens (no_default (next old) other)) refl
+    inv.2 (run_next any AStringArm Default old.tokens (no_default (next old) other)) refl
 
 -- an arm goes wrong
 pub text_stops : (start old new : Placed) (arms : List ArmParts) (e : Stop) → TextsTaken start old arms → (next old ≡ Word (codes "default") → ⊥)
@@ -199,7 +199,7 @@ pub default_next : (start old mid : Placed) (arms : List ArmParts) → TextsTake
 default_next start old mid arms inv is past =
     let here : Past (Word (codes "default") ∷ []) old mid = subst (λ t. Past (t ∷ []) old mid) is past in
     let one = resumes_then any StringArmsToEnd Texts Default inv.0 [] old.tokens old.tokens (λ p. arms ++ with_default p) (λ b. ([], b))
-    inv.2 (run_ends AStringArm Default old.tokens (no_text (next old) is)) refl in (
+    inv.2 (run_ends any any AStringArm Default (λ b v x n o. refl) old.tokens (no_text (next old) is)) refl in (
       (inv.0 ++ []) ++ (Word (codes "default") ∷ []),
       past_on (past_on inv.1 (past_none old)) here,
       resumes_then any StringArmsToEnd Default (TargetTo 62) (inv.0 ++ []) (Word (codes "default") ∷ []) old.tokens mid.tokens (λ b. arms ++ plain_arm b ∷ []) (λ b. b)

@@ -10,3 +10,11 @@ pub mod TypeWords
 pub mod Arms
 pub mod WholeTypes
 pub mod Constraints
+pub mod Directives
+pub mod Assertions
+pub mod Kinds
+pub mod Nesting
+pub mod ClassMembers
+pub mod TextWithoutEnd
+pub mod Declarations
+pub mod Texts

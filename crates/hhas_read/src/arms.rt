@@ -51,7 +51,7 @@ impl<'a> Reader<'a> {
     }
 
     /// A label, and the mark behind it.
-    fn label_to(&mut self, alloc: Global, end: u8) -> Result<Text, Stop>
+    pub fn label_to(&mut self, alloc: Global, end: u8) -> Result<Text, Stop>
         requires { is_proper (Mark end) ≡ true }
         ensures { Reads any (Ended ALabel (Mark end ∷ [])) self.old result self.new }
     {

@@ -1,9 +1,8 @@
 //! Operands of instructions.
 
-ghost use Rattle.std.specs.Prelude.{◌≢◌};
-ghost use Rattle.hhbc_ops.specs.declared.words.ImmKind.TheVariants as kinds;
 ghost use Rattle.hhbc_repo.specs.CodeSyntax.{Operand};
-ghost use Rattle.hhas_read.specs.Reading.{Reads, any};
+ghost use Rattle.hhas_read.specs.Kinds.{after};
+ghost use Rattle.hhas_read.specs.Reading.{Reads};
 
 use crate::reader::{Reader, Stop};
 use hhbc_ops::ImmKind;
@@ -11,10 +10,9 @@ use hhbc_repo::ImmParts;
 use std::alloc::Global;
 
 impl<'a> Reader<'a> {
-    /// An operand of a kind that isn't the one of types.
-    pub fn untyped_operand(&mut self, alloc: Global, kind: ImmKind) -> Result<ImmParts, Stop>
-        requires { kind ≢ kinds.Constraint }
-        ensures { Reads any (Operand kind) self.old result self.new }
+    /// An operand of the kind.
+    pub fn operand(&mut self, alloc: Global, kind: ImmKind) -> Result<ImmParts, Stop>
+        ensures { Reads (after kind) (Operand kind) self.old result self.new }
     {
         match kind {
             ImmKind::Int => match self.integer() {
@@ -73,7 +71,10 @@ impl<'a> Reader<'a> {
                 Ok((key, value)) => Ok(ImmParts::IterLocals(key, value)),
                 Err(stop) => Err(stop),
             },
-            ImmKind::Constraint => Err(Stop::Syntax),
+            ImmKind::Constraint => match self.constraint_parts(alloc) {
+                Ok(value) => Ok(ImmParts::Constraint(value)),
+                Err(stop) => Err(stop),
+            },
         }
     }
 }

@@ -1,38 +1,50 @@
-//! Reads texts, exactly: each function accepts what its rule of the grammar spells and else stops at the first token
-//! that leads to no word of the rule. So far it has the single tokens, fixed tokens, labels, words with a
-//! colon and what follows them, words of operators, queries and kinds of cells, member sequences, the locals of an
-//! iterator, the arms of switches, operands of each kind but constraints, lists of locals and parameters, values of
-//! constants and properties, types and constraints as they are written; what types stand for, codes, bodies, classes
-//! and whole texts are still to come.
+//! Reads texts, exactly: `read_parts` accepts what the grammar spells and else tells the first fault. Each function of
+//! the reader reads what its rule of the grammar spells, and else stops at the first token that leads to no word of
+//! the rule: tokens, values, types, codes and their operands, bodies with their nested try bodies over a stack of their
+//! own, classes, and whole texts.
 #![tactic(auto)]
 
 mod arms;
 mod atoms;
+mod bodies;
+mod body_heads;
 mod cell_kinds;
+mod class_members;
+mod classes;
+mod codes;
 mod constraints;
 mod containers;
+mod declarations;
 mod finals;
 mod fixed;
 mod imms;
+mod items;
 mod iterators;
 mod keys;
 mod labels;
+mod laws;
 mod leaves;
 mod lists;
 mod members;
 mod named_words;
+mod open_bodies;
+mod positions;
 mod reader;
 mod scalars;
 mod sequences;
 mod singles;
 mod tagged;
+mod texts;
+mod type_parts;
 mod types;
 mod whole_types;
 
 pub use atoms::{Atom, Head};
 pub use labels::is_reserved;
+pub use laws::{first_fault_is_one, text_spells_one_repository};
 pub use leaves::Written;
 pub use reader::{Piece, Reader, Stop};
+pub use texts::{PartsFault, read_parts};
 pub use types::TypeAtom;
 pub use whole_types::WrittenType;
 
@@ -41,6 +53,20 @@ mod tests;
 #[cfg(test)]
 mod tests_arms;
 #[cfg(test)]
+mod tests_bodies;
+#[cfg(test)]
+mod tests_classes;
+#[cfg(test)]
+mod tests_codes;
+#[cfg(test)]
+mod tests_items;
+#[cfg(test)]
 mod tests_members;
+#[cfg(test)]
+mod tests_positions;
+#[cfg(test)]
+mod tests_texts;
+#[cfg(test)]
+mod type_parts_tests;
 #[cfg(test)]
 mod type_tests;

@@ -145,9 +145,10 @@ impl<'a> Reader<'a> {
         }
     }
 
-    /// Where the next token begins, or the place where none does.
+    /// Where the next token begins, or the place where none does. Some token is always next: nothing goes past the end.
     pub fn place(&self) -> u32
-        ensures { result ≡ front_place self.now.places }
+        ensures place { result ≡ front_place self.now.places }
+        ensures some { self.now.tokens ≡ next self.now ∷ drop 1 self.now.tokens }
     {
         self.start
     }

@@ -16,7 +16,7 @@ pub fn stops_at<T: Drop>(rt: &impl Abort, answer: Result<T, Stop>, reader: &Read
 }
 
 /// The names, with a comma behind each.
-fn listed(rt: &impl Abort, names: Result<Seq<Text>, Stop>, wanted: &[&[u8]]) {
+pub fn listed(rt: &impl Abort, names: Result<Seq<Text>, Stop>, wanted: &[&[u8]]) {
     let Ok(names) = names else {
         panic!(rt; "not read");
     };
@@ -29,7 +29,7 @@ fn listed(rt: &impl Abort, names: Result<Seq<Text>, Stop>, wanted: &[&[u8]]) {
     }
 }
 
-fn spelled(rt: &impl Abort, answer: Result<Text, Stop>, wanted: &[u8]) {
+pub fn spelled(rt: &impl Abort, answer: Result<Text, Stop>, wanted: &[u8]) {
     let Ok(text) = answer else {
         panic!(rt; "not read");
     };

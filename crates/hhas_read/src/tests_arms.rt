@@ -93,36 +93,26 @@ fn other_arms_with_strings_stop_where_they_go_wrong(rt: HostRuntime) {
 fn operands_are_read(rt: HostRuntime) {
     let alloc = rt.alloc();
     let mut reader = Reader::new(b"-7 254 L1 <L0> V:$v <L0> SetM");
+    assert!(&rt; matches!(reader.operand(alloc, ImmKind::Int), Ok(ImmParts::Int(-7))));
     assert!(&rt;
         matches!(
-            reader.untyped_operand(alloc, ImmKind::Int),
-            Ok(ImmParts::Int(-7))
-        )
-    );
-    assert!(&rt;
-        matches!(
-            reader.untyped_operand(alloc, ImmKind::Count),
+            reader.operand(alloc, ImmKind::Count),
             Ok(ImmParts::Count(254))
         )
     );
+    assert!(&rt; matches!(reader.operand(alloc, ImmKind::Label), Ok(ImmParts::Pos(_))));
     assert!(&rt;
         matches!(
-            reader.untyped_operand(alloc, ImmKind::Label),
-            Ok(ImmParts::Pos(_))
-        )
-    );
-    assert!(&rt;
-        matches!(
-            reader.untyped_operand(alloc, ImmKind::Switch),
+            reader.operand(alloc, ImmKind::Switch),
             Ok(ImmParts::Arms(_))
         )
     );
     assert!(&rt;
         matches!(
-            reader.untyped_operand(alloc, ImmKind::IterLocals),
+            reader.operand(alloc, ImmKind::IterLocals),
             Ok(ImmParts::IterLocals(None, _))
         )
     );
-    let answer = reader.untyped_operand(alloc, ImmKind::SSwitch);
+    let answer = reader.operand(alloc, ImmKind::SSwitch);
     stops_at(&rt, answer, &reader, 21);
 }

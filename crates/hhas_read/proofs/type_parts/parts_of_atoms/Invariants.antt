@@ -1,0 +1,12 @@
+use Rattle.std.proofs.Common.{◌≡◌, ◌++◌, drop, length, map}
+use Rattle.std.specs.List.{flat_map}
+use Rattle.type_lattice.specs.Types.{never}
+use Rattle.hhbc_repo.specs.TypeSyntax.{type_classes, type_from}
+use Rattle.hhas_read.specs.TypeWords.{type_atom_of}
+use Rattle.hhas_read.proofs.type_parts.parts_of_atoms.Given as goal
+
+abbrev pub invariant-loop-atom : goal.invariant-loop-atom
+invariant-loop-atom l = record {
+  made : type_from (length l.classes) (map type_atom_of (drop l.atom-index l.atoms)) l.t ≡ type_from 0 (map type_atom_of l.atoms) never;
+  named : l.classes ++ flat_map type_classes (map type_atom_of (drop l.atom-index l.atoms)) ≡ flat_map type_classes (map type_atom_of l.atoms);
+}
