@@ -12,7 +12,28 @@ pub mod TestedRuns
 pub mod Walking
 pub mod SyntaxExamples
 mod SampleExamples
+pub mod SmallSound
 pub mod HomesFound
+pub mod Inherited
 pub mod Keyed
+pub mod MethodsFound
 pub mod Numbered
 pub mod OneFunction
+pub mod ChainLaws
+pub mod Different
+pub mod CheckLoops
+pub mod Checking
+pub mod LabelsFound
+mod NumbersPut
+pub mod NoFaults
+pub mod DeclaredTree
+pub mod SoundLinks
+pub mod NamesMet
+pub mod ClassSteps
+pub mod WithinLimits
+pub mod Passing
+pub mod ItemChecks
+mod FoundByName
+mod WaysUp
+pub mod MemberSteps
+pub mod BodyCounts

@@ -1,7 +1,5 @@
 -- What the checks of linking say of small repositories.
-use Rattle.std.proofs.Common.{◌≡◌, ℕ, refl, List, [], ◌∷◌, Option, Some, None, slice_get, replicate, map, pos, codes}
-use Rattle.std.specs.Fmt.{decimal}
-use Rattle.type_lattice.specs.Types.{never}
+use Rattle.std.proofs.Common.{◌≡◌, refl, List, [], ◌∷◌, Option, Some, None, slice_get, codes}
 use Rattle.hhbc_ops.specs.declared.op.Op.{Op}
 use Rattle.hhbc_ops.specs.declared.op.Op.TheVariants as ops
 use Rattle.hhbc_repo.specs.declared.link_fault.LinkFault.{LinkFault}
@@ -13,7 +11,6 @@ use Rattle.hhbc_repo.specs.declared.parts.ItemParts.TheVariants as items
 use Rattle.hhbc_repo.specs.declared.parts.CodeParts.TheVariants as forms
 use Rattle.hhbc_repo.specs.declared.parts.ImmParts.{ImmParts}
 use Rattle.hhbc_repo.specs.declared.parts.ImmParts.TheVariants as imms
-use Rattle.hhbc_repo.specs.declared.body.Region.{Region}
 use Rattle.hhbc_repo.specs.LinkFaults.{Name, Whole, faults, nesting_from}
 use Rattle.hhbc_repo.specs.Resolved.{regions_from, label_from}
 

@@ -12,7 +12,7 @@ use Rattle.hhbc_repo.specs.LinkFaults.{is_name, place_in, at_class}
 use Rattle.hhbc_repo.specs.LookUps.{total, own_number, number_at}
 use Rattle.hhbc_repo.specs.Members.{starts, names_of, Counted}
 
-numbers-get : (s n p : ℕ) → p < n → slice_get (numbers s n) p ≡ Some (s + p)
+pub numbers-get : (s n p : ℕ) → p < n → slice_get (numbers s n) p ≡ Some (s + p)
 numbers-get s zero p h = absurd (omega arith)
 numbers-get s (suc n) zero h = let e : s ≡ s + 0 = omega arith in ap (λ k. Some k) e
 numbers-get s (suc n) (suc p) h = let e : suc s + p ≡ s + suc p = omega arith in numbers-get (suc s) n p (omega arith) ∙ ap (λ k. Some k) e

@@ -1,6 +1,5 @@
 -- A repository of one function without classes is sound.
-use Rattle.std.proofs.Common.{◌≡◌, ℕ, zero, suc, [], ◌∷◌, refl, arith}
-use Rattle.type_lattice.specs.Classes.{Forest}
+use Rattle.std.proofs.Common.{zero, suc, [], ◌∷◌, refl, arith}
 use Rattle.type_lattice.specs.Walks.{AllEnded}
 use Rattle.type_lattice.proofs.Made.{is_forest}
 use Rattle.hhbc_repo.specs.declared.body.Body.{Body}

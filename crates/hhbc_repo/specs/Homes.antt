@@ -1,5 +1,5 @@
 -- Where each body stands: among the functions, or among the methods of a class.
-use Rattle.std.specs.Prelude.{ℕ, suc, List, [], ◌∷◌, ◌++◌, Option, None, Some}
+use Rattle.std.specs.Prelude.{ℕ, suc, ◌-◌, ◌≤◌, List, [], ◌∷◌, ◌++◌, Option, None, Some, slice_get}
 use Rattle.hhbc_repo.specs.declared.body.Body.{Body}
 use Rattle.hhbc_repo.specs.declared.repo.Class.{Class}
 use Rattle.hhbc_repo.specs.declared.homes.Home.{Home}
@@ -17,3 +17,17 @@ homes_from n (c ∷ cs) = homes_at (Some n) 0 c.methods ++ homes_from (suc n) cs
 
 abbrev pub homes_of : List Body → List Class → List Home
 homes_of functions classes = homes_at None 0 functions ++ homes_from first_class classes
+
+-- a number that a declared class has
+abbrev pub IsDeclared : Option ℕ → Type 0
+IsDeclared None = Unit {0}
+IsDeclared (Some c) = first_class ≤ c
+
+-- the methods of a class, and the functions where there is none
+abbrev pub methods_of : Option Class → List Body
+methods_of None = []
+methods_of (Some c) = c.methods
+
+abbrev pub bodies_in : List Body → List Class → Option ℕ → List Body
+bodies_in functions classes None = functions
+bodies_in functions classes (Some c) = methods_of (slice_get classes (c - first_class))

@@ -1,14 +1,14 @@
 -- What names and numbers find in a repository.
 use Rattle.std.specs.Prelude.{◌≡◌, ◌<◌, ◌^◌, ℕ, suc, ◌+◌, true, List, [], ◌∷◌, ◌++◌, Option, Some, None, map, flat_map, length, slice_get, codes}
 use Rattle.std.specs.List.{list_all}
-use Rattle.type_lattice.specs.Classes.{Tree, Forest, chain}
+use Rattle.type_lattice.specs.Classes.{Tree, Forest, below, chain}
 use Rattle.hhbc_repo.specs.declared.body.Body.{Body}
 use Rattle.hhbc_repo.specs.declared.repo.Class.{Class}
 use Rattle.hhbc_repo.specs.declared.repo.Property.{Property}
 use Rattle.hhbc_repo.specs.Linked.{Linked}
 use Rattle.hhbc_repo.specs.LinkFaults.{Name, place_in, at_class, first_class}
 use Rattle.hhbc_repo.specs.Names.{distinct}
-use Rattle.hhbc_repo.specs.Bodies.{class_names, tree_of, bodies, own_from}
+use Rattle.hhbc_repo.specs.Bodies.{class_names, tree_of, bodies, body_at, own_from}
 
 -- the names of what each class declares, by class; of the built-in ones Exception alone has a property, and none has methods
 abbrev pub function_names : List Body → List Name
@@ -74,6 +74,15 @@ owners_from n (c ∷ cs) = map (λ (b : Body). Some n) c.methods ++ owners_from 
 
 abbrev pub owners : Linked → List (Option ℕ)
 owners r = map (λ (b : Body). None) r.functions ++ owners_from first_class r.classes
+
+-- the number is that of a body of the name, a method of the class itself or of one that it descends from
+pub record IsMethodOf (r : Linked) (c : ℕ) (name : Name) (n : ℕ) : Type 0 where
+  pub owner : ℕ
+  pub body : Body
+  pub above : below (tree_of r) c owner ≡ true
+  pub owned : slice_get (owners r) n ≡ Some (Some owner)
+  pub there : body_at r n ≡ Some body
+  pub named : body.name ≡ name
 
 abbrev pub total : List (List Name) → ℕ
 total [] = 0

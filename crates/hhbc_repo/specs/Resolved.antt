@@ -1,5 +1,5 @@
 -- What parts link to: locals, labels and classes by number. A name that isn't there counts as 0; where no check fails there is none.
-use Rattle.std.specs.Prelude.{◌≡◌, ℕ, zero, suc, List, [], ◌∷◌, ◌++◌, map, flat_map, length, Option, Some, None, option_map, slice_get}
+use Rattle.std.specs.Prelude.{◌≡◌, ℕ, zero, suc, List, [], ◌∷◌, map, flat_map, length, Option, Some, None, option_map, slice_get}
 use Rattle.type_lattice.specs.declared.types.HType.{HType}
 use Rattle.type_lattice.specs.declared.types.Leaf.{Leaf}
 use Rattle.type_lattice.specs.declared.types.ObjPart.{ObjPart}
@@ -18,7 +18,6 @@ use Rattle.hhbc_repo.specs.declared.parts.CodeParts.TheVariants as forms
 use Rattle.hhbc_repo.specs.declared.parts.ImmParts.{ImmParts}
 use Rattle.hhbc_repo.specs.declared.parts.ImmParts.TheVariants as named
 use Rattle.hhbc_repo.specs.declared.parts.ArmParts.{ArmParts}
-use Rattle.hhbc_repo.specs.declared.parts.MemberSeqParts.{MemberSeqParts}
 use Rattle.hhbc_repo.specs.declared.parts.BaseParts.{BaseParts}
 use Rattle.hhbc_repo.specs.declared.parts.BaseParts.TheVariants as base_parts
 use Rattle.hhbc_repo.specs.declared.parts.MemberKeyParts.{MemberKeyParts}
@@ -35,7 +34,6 @@ use Rattle.hhbc_repo.specs.declared.code.Code.TheVariants as codes
 use Rattle.hhbc_repo.specs.declared.code.Imm.{Imm}
 use Rattle.hhbc_repo.specs.declared.code.Imm.TheVariants as imms
 use Rattle.hhbc_repo.specs.declared.code.Arm.{Arm}
-use Rattle.hhbc_repo.specs.declared.code.MemberSeq.{MemberSeq}
 use Rattle.hhbc_repo.specs.declared.code.Base.{Base}
 use Rattle.hhbc_repo.specs.declared.code.Base.TheVariants as bases
 use Rattle.hhbc_repo.specs.declared.code.MemberKey.{MemberKey}

@@ -11,14 +11,14 @@ use std::alloc::Global;
 use type_lattice::ClassTree;
 
 /// Puts a name at the end.
-fn push_name(names: &mut Seq<Text>, alloc: Global, name: &[u8]) -> Result<(), NoMemory>
+pub(crate) fn push_name(names: &mut Seq<Text>, alloc: Global, name: &[u8]) -> Result<(), NoMemory>
     ensures { OnOk result (names.new ≡ names.old ++ name.now ∷ []) }
 {
     names.push(Text::from_bytes(alloc, name)?)
 }
 
 /// The names of the built-in classes.
-fn built_in_list(alloc: Global) -> Result<Seq<Text>, NoMemory>
+pub(crate) fn built_in_list(alloc: Global) -> Result<Seq<Text>, NoMemory>
     ensures { IfOk result (λ names. names ≡ built_in_names) }
 {
     let mut names = Seq::new(alloc);
@@ -43,7 +43,7 @@ pub(crate) fn list_of_classes(alloc: Global, classes: &[Class]) -> Result<Seq<Te
 }
 
 /// The parents of the built-in classes.
-fn built_in_parents(alloc: Global) -> Result<Seq<Option<u32>>, NoMemory>
+pub(crate) fn built_in_parents(alloc: Global) -> Result<Seq<Option<u32>>, NoMemory>
     ensures { IfOk result (λ parents. parents ≡ built_in_tree) }
 {
     let mut parents = Seq::new(alloc);

@@ -1,7 +1,7 @@
 //! Where each body stands.
 
-ghost use Rattle.std.specs.Prelude.{◌≡◌, ◌<◌, ◌^◌, ◌+◌, [], ◌∷◌, ◌++◌, OnOk, IfOk, length};
-ghost use Rattle.hhbc_repo.specs.Homes.{homes_at, homes_of};
+ghost use Rattle.std.specs.Prelude.{◌≡◌, ◌<◌, ◌≤◌, ◌-◌, ◌^◌, ◌+◌, [], ◌∷◌, ◌++◌, OnOk, IfOk, Some, length, slice_get};
+ghost use Rattle.hhbc_repo.specs.Homes.{IsDeclared, bodies_in, homes_at, homes_of, methods_of};
 ghost use Rattle.hhbc_repo.specs.LookUps.{methods_in};
 
 use crate::body::Body;
@@ -47,4 +47,34 @@ pub(crate) fn homes(
         number += 1;
     }
     Ok(all)
+}
+
+/// The methods of a declared class.
+fn methods_at(classes: &[Class], class: u32) -> &[Body]
+    requires declared { 6 ≤ class }
+    requires within { class - 6 < length classes.now }
+    ensures { result.now ≡ methods_of (slice_get classes.now (class - 6)) }
+{
+    classes[class as usize - 6].methods.as_slice()
+}
+
+/// The functions, or the methods of a declared class.
+fn bodies_at<'a>(functions: &'a [Body], classes: &'a [Class], class: Option<u32>) -> &'a [Body]
+    requires declared { IsDeclared class }
+    requires any { 0 < length (bodies_in functions.now classes.now class) }
+    ensures { result.now ≡ bodies_in functions.now classes.now class }
+{
+    match class {
+        None => functions,
+        Some(class) => methods_at(classes, class),
+    }
+}
+
+/// The body that stands there.
+pub(crate) fn body_at<'a>(functions: &'a [Body], classes: &'a [Class], home: Home) -> &'a Body
+    requires declared { IsDeclared home.class }
+    requires within { home.place < length (bodies_in functions.now classes.now home.class) }
+    ensures { slice_get (bodies_in functions.now classes.now home.class) home.place ≡ Some result.now }
+{
+    &bodies_at(functions, classes, home.class)[home.place as usize]
 }

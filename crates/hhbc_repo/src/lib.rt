@@ -2,16 +2,39 @@
 #![tactic(auto)]
 
 mod body;
+mod class_chains;
+mod class_checks;
 mod class_list;
 mod code;
+mod declared;
+mod distinct_names;
+mod first_numbers;
 mod homes;
+mod known;
 mod laws;
+mod link_bodies;
+mod link_classes;
+mod link_codes;
+mod link_counts;
 mod link_fault;
+mod link_members;
+mod link_operands;
+mod link_positions;
+mod link_types;
+mod linker;
+mod listed;
+mod look_ups;
+mod member_checks;
 mod members;
 mod name_table;
+mod nesting;
 mod parts;
+mod regions;
 mod repo;
+mod scope;
 mod soundness;
+mod stack;
+mod telling;
 
 pub use body::{Assert, Body, Position, Region};
 pub use code::{Arm, Base, Code, Final, Imm, Instr, MemberKey, MemberSeq};
@@ -19,7 +42,8 @@ pub use laws::{
     bare_is_first_form, first_form_never_sticks, local_codes_never_stick, runs_as_bare,
     second_form_never_sticks, types_where_asserted_walks, types_where_it_walks,
 };
-pub use link_fault::{LinkFault, LinkKind};
+pub use link_fault::{LinkError, LinkFault, LinkKind};
+pub use linker::link;
 pub use parts::{
     ArmParts, AssertParts, BaseParts, BodyParts, ClassParts, CodeParts, FinalParts, ImmParts,
     InstrParts, ItemParts, MemberKeyParts, MemberSeqParts, Parts, PositionParts, PropertyParts,
@@ -27,3 +51,8 @@ pub use parts::{
 };
 pub use repo::{Class, Const, Property, Repo};
 pub use soundness::{Analysed, facts_stay_true, rounds_stay_true, sample_is_true, tests_only_stop};
+
+#[cfg(test)]
+mod tests;
+#[cfg(test)]
+mod tests_regions;

@@ -1,4 +1,4 @@
-use hack_values::Text;
+use hack_values::{NoMemory, Text};
 
 /// What a check of linking finds.
 #[derive(Clone, Copy, Debug, PartialEq, Eq)]
@@ -28,4 +28,22 @@ pub struct LinkFault {
     pub name: Text,
     /// The number counted, where a limit is passed or a count is wrong; else 0.
     pub found: u64,
+}
+
+/// Why parts don't link.
+#[derive(Debug, Drop)]
+pub enum LinkError {
+    Fault(LinkFault),
+    NoMemory,
+}
+
+impl From<NoMemory> for LinkError {
+    ghost use Rattle.std.specs.Prelude.{◌≡◌};
+    ghost use Rattle.hhbc_repo.specs.declared.link_fault.LinkError.TheVariants.{NoMemory as WantOfMemory};
+
+    ghost from_gives = { λ _ e. e ≡ WantOfMemory };
+
+    fn from(_want: NoMemory) -> LinkError {
+        LinkError::NoMemory
+    }
 }

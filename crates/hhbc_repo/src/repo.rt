@@ -1,11 +1,12 @@
-ghost use Rattle.std.specs.Prelude.{◌≡◌, ◌<◌, IfOk, Some, length, slice_get};
+ghost use Rattle.std.specs.Prelude.{◌≡◌, ◌<◌, IfOk, IfSome, Some, length, slice_get};
 ghost use Rattle.hhbc_repo.specs.Bodies.{bodies, class_names, tree_of};
 ghost use Rattle.hhbc_repo.specs.LinkFaults.{place_in};
-ghost use Rattle.hhbc_repo.specs.LookUps.{Sound, function_names, owners};
+ghost use Rattle.hhbc_repo.specs.LookUps.{IsMethodOf, Sound, function_names, method_of, owners, property_of};
 
 use crate::body::Body;
 use crate::class_list::{list_of_classes, tree_of_classes};
-use crate::homes::{Home, homes};
+use crate::homes::{Home, body_at, homes};
+use crate::look_ups::find_member;
 use crate::members::{Members, methods_of, properties_of};
 use crate::name_table::{NameTable, table_of_bodies, table_of_texts};
 use hack_values::{Cell, NoMemory, Seq, Text};
@@ -131,6 +132,15 @@ impl Repo {
         self.homes.as_slice().len() as u32
     }
 
+    /// A function or a method. Functions are numbered first, and then the methods of each class.
+    pub fn body(&self, body: u32) -> &Body
+        requires { body < length (bodies self.now) }
+        ensures { slice_get (bodies self.now) body ≡ Some result.now }
+    {
+        let home = self.homes.as_slice()[body as usize];
+        body_at(self.functions.as_slice(), self.classes.as_slice(), home)
+    }
+
     /// The class of a method; a function has none.
     pub fn class_of(&self, body: u32) -> Option<u32>
         requires { body < length (bodies self.now) }
@@ -153,5 +163,27 @@ impl Repo {
     {
         let place = self.class_table.find(name)?;
         Some(place as u32)
+    }
+
+    /// The method of that name which the class has, its own before those of its ancestors, the nearest first.
+    /// Its number is that of a body.
+    pub fn method_of(&self, class: u32, name: &[u8]) -> Option<u32>
+        requires { class < length (class_names self.now) }
+        ensures value { result ≡ method_of self.now class name.now }
+        ensures meaning { IfSome result (λ number. IsMethodOf self.now class name.now number) }
+    {
+        self.tree.is_forest();
+        find_member(&self.methods, self.classes.as_slice(), class, name)
+    }
+
+    /// The property of that name which objects of the class have, its own before those of its ancestors,
+    /// the nearest first. Properties are numbered by class, and those of a class in their order; 0 is the
+    /// message of an Exception.
+    pub fn property_of(&self, class: u32, name: &[u8]) -> Option<u32>
+        requires { class < length (class_names self.now) }
+        ensures { result ≡ property_of self.now class name.now }
+    {
+        self.tree.is_forest();
+        find_member(&self.properties, self.classes.as_slice(), class, name)
     }
 }

@@ -1,0 +1,126 @@
+-- What a list of checks says where none of them fails.
+use Rattle.std.proofs.Common.{◌≡◌, ◌≤◌, ℕ, zero, suc, ◌+◌, Bool, true, false, ◌||◌, not, List, [], ◌∷◌, ◌++◌, Some, slice_get, length, nat_le, refl, sym, ap, ◌∙◌, subst, arith, append_assoc, map, take}
+use Rattle.std.proofs.lemmas.Bool.{leb-true, and_from, and_parts}
+use Rattle.std.proofs.lemmas.List.{length-append}
+use Rattle.std.proofs.lemmas.List.Folds.{list_any-append}
+use Rattle.std.proofs.Math.Seq.{take-append_seam}
+use Rattle.type_lattice.specs.Classes.{chain, has}
+use Rattle.hhbc_repo.specs.declared.link_fault.LinkFault.{LinkFault}
+use Rattle.hhbc_repo.specs.declared.link_fault.LinkKind.{LinkKind}
+use Rattle.hhbc_repo.specs.declared.link_fault.LinkKind.TheVariants as kinds
+use Rattle.hhbc_repo.specs.declared.parts.BodyParts.{BodyParts}
+use Rattle.hhbc_repo.specs.declared.parts.ClassParts.{ClassParts}
+use Rattle.hhbc_repo.specs.declared.parts.PropertyParts.{PropertyParts}
+use Rattle.hhbc_repo.specs.Names.{distinct_from}
+use Rattle.hhbc_repo.specs.LinkFaults.{Name, Whole, is_name, names, check, within, differ_from, class_names, parents, parent_faults, ancestors, different, stated_faults, repeated_functions, class_checks, property_checks, each_class}
+
+pub empty_left : {A : Type 0} (xs ys : List A) → xs ++ ys ≡ [] → xs ≡ []
+empty_left [] ys h = refl
+empty_left (x ∷ xs) ys h = absurd (cc)
+
+pub empty_right : {A : Type 0} (xs ys : List A) → xs ++ ys ≡ [] → ys ≡ []
+empty_right [] ys h = h
+empty_right (x ∷ xs) ys h = absurd (cc)
+
+pub passes : (b : Bool) (kind : LinkKind) (owner name : Name) (found : ℕ) → check b kind owner name found ≡ [] → b ≡ true
+passes true kind owner name found h = refl
+passes false kind owner name found h = absurd (cc)
+
+pub fits_within : (limit count : ℕ) (owner name : Name) → within limit count owner name ≡ [] → count ≤ limit
+fits_within limit count owner name h = leb-true count limit (passes (nat_le count limit) kinds.OverLimit owner name count h)
+
+pub not_false : (b : Bool) → not b ≡ true → b ≡ false
+not_false true h = absurd (cc)
+not_false false h = refl
+
+-- names apart from these and those before are apart from these
+or_right : (a b : Bool) → not (a || b) ≡ true → not b ≡ true
+or_right true b h = absurd (cc)
+or_right false b h = h
+
+pub distinct_fewer : (first before more : List Name) → distinct_from (first ++ before) more ≡ true → distinct_from before more ≡ true
+distinct_fewer first before [] h = refl
+distinct_fewer first before (n ∷ ns) h =
+    let both = and_parts (not (names (first ++ before) n)) (distinct_from ((first ++ before) ++ n ∷ []) ns) h in
+    let here = or_right (names first n) (names before n) (subst (λ (b : Bool). not b ≡ true) (list_any-append (is_name n) first before) both.0) in
+    let later = distinct_fewer first (before ++ n ∷ []) ns (subst (λ (l : List Name). distinct_from l ns ≡ true) (append_assoc first before (n ∷ [])) both.1) in
+    and_from (not (names before n)) (distinct_from (before ++ n ∷ []) ns) here later
+
+pub differ : (kind : LinkKind) (owner : Name) (spelled : Name → Name) (before all : List Name) → differ_from kind owner spelled before all ≡ [] → distinct_from before all ≡ true
+differ kind owner spelled before [] h = refl
+differ kind owner spelled before (n ∷ ns) h =
+    let here = check (not (names before n)) kind owner (spelled n) 0 in
+    let more = differ_from kind owner spelled (before ++ n ∷ []) ns in
+    and_from (not (names before n)) (distinct_from (before ++ n ∷ []) ns)
+    (passes (not (names before n)) kind owner (spelled n) 0 (empty_left here more h))
+    (differ kind owner spelled (before ++ n ∷ []) ns (empty_right here more h))
+
+pub functions_differ : (before : List Name) (bs : List BodyParts) → repeated_functions before bs ≡ [] → distinct_from before (map (λ (b : BodyParts). b.name) bs) ≡ true
+functions_differ before [] h = refl
+functions_differ before (b ∷ bs) h =
+    let here = check (not (names before b.name)) kinds.DuplicateName b.name b.name 0 in
+    let more = repeated_functions (before ++ b.name ∷ []) bs in
+    and_from (not (names before b.name)) (distinct_from (before ++ b.name ∷ []) (map (λ (b : BodyParts). b.name) bs))
+    (passes (not (names before b.name)) kinds.DuplicateName b.name b.name 0 (empty_left here more h))
+    (functions_differ (before ++ b.name ∷ []) bs (empty_right here more h))
+
+pub properties_differ : (w : Whole) (owner : Name) (before : List Name) (ps : List PropertyParts) → property_checks w owner before ps ≡ [] → distinct_from before (map (λ (p : PropertyParts). p.name) ps) ≡ true
+properties_differ w owner before [] h = refl
+properties_differ w owner before (p ∷ ps) h =
+    let here = check (not (names before p.name)) kinds.DuplicateProperty owner p.name 0 in
+    let more = property_checks w owner (before ++ p.name ∷ []) ps in
+    and_from (not (names before p.name)) (distinct_from (before ++ p.name ∷ []) (map (λ (p : PropertyParts). p.name) ps))
+    (passes (not (names before p.name)) kinds.DuplicateProperty owner p.name 0 (empty_left here (stated_faults w owner p.stated ++ more) h))
+    (properties_differ w owner (before ++ p.name ∷ []) ps (empty_right (stated_faults w owner p.stated) more (empty_right here (stated_faults w owner p.stated ++ more) h)))
+
+-- the class at a place has no fault
+pub class_at_place : (f : ℕ → ClassParts → List LinkFault) (n : ℕ) (cs : List ClassParts) (i : ℕ) (c : ClassParts) → each_class f n cs ≡ [] → slice_get cs i ≡ Some c → f (n + i) c ≡ []
+class_at_place f n [] i c h e = absurd (cc)
+class_at_place f n (d ∷ ds) zero c h e =
+    let same : d ≡ c = cc in
+    let k : n ≡ n + 0 = omega arith in
+    subst (λ (m : ℕ). f m c ≡ []) k (subst (λ (x : ClassParts). f n x ≡ []) same (empty_left (f n d) (each_class f (suc n) ds) h))
+class_at_place f n (d ∷ ds) (suc i) c h e =
+    let k : suc n + i ≡ n + suc i = omega arith in
+    subst (λ (m : ℕ). f m c ≡ []) k (class_at_place f (suc n) ds i c (empty_right (f n d) (each_class f (suc n) ds) h) e)
+
+-- what a class without a fault is like
+pub record Passes (w : Whole) (n : ℕ) (c : ClassParts) : Type 0 where
+  pub named : not (names (take n (class_names w)) c.name) ≡ true
+  pub acyclic : has n (ancestors w n) ≡ false
+
+pub class_passes : (w : Whole) (n : ℕ) (c : ClassParts) → class_checks w n c ≡ [] → Passes w n c
+class_passes w n c h = record {
+  named = passes (not (names (take n (class_names w)) c.name)) kinds.DuplicateName c.name c.name 0 (empty_left name (parent ++ (cycle ++ deep)) h);
+  acyclic = not_false (has n (ancestors w n)) (passes (not (has n (ancestors w n))) kinds.ClassCycle c.name c.name 0
+      (empty_left cycle deep (empty_right parent (cycle ++ deep) (empty_right name (parent ++ (cycle ++ deep)) h))));
+}
+  where
+    name : List LinkFault
+    name = check (not (names (take n (class_names w)) c.name)) kinds.DuplicateName c.name c.name 0
+
+    parent : List LinkFault
+    parent = parent_faults w c.name c.parent
+
+    cycle : List LinkFault
+    cycle = check (not (has n (ancestors w n))) kinds.ClassCycle c.name c.name 0
+
+    deep : List LinkFault
+    deep = check (nat_le (different (chain (parents w) n)) 64) kinds.ClassTooDeep c.name c.name 0
+
+-- the names of classes differ from those of the classes before them
+pub classes_differ : (w : Whole) (before : List Name) (cs : List ClassParts) → before ++ map (λ (c : ClassParts). c.name) cs ≡ class_names w
+    → each_class (class_checks w) (length before) cs ≡ [] → distinct_from before (map (λ (c : ClassParts). c.name) cs) ≡ true
+classes_differ w before [] all h = refl
+classes_differ w before (c ∷ cs) all h =
+    let more = map (λ (c : ClassParts). c.name) cs in
+    let n = length before in
+    let front : take n (class_names w) ≡ before = ap (take n) (sym all) ∙ take-append_seam before (c.name ∷ more) in
+    let now : class_checks w n c ≡ [] = empty_left (class_checks w n c) (each_class (class_checks w) (suc n) cs) h in
+    let here : not (names (take n (class_names w)) c.name) ≡ true = (class_passes w n c now).named in
+    let longer : suc n ≡ length (before ++ c.name ∷ []) = let k = length-append before (c.name ∷ []) in omega (arith, k) in
+    let rest : each_class (class_checks w) (length (before ++ c.name ∷ [])) cs ≡ [] =
+    subst (λ (m : ℕ). each_class (class_checks w) m cs ≡ []) longer (empty_right (class_checks w n c) (each_class (class_checks w) (suc n) cs) h) in
+    and_from (not (names before c.name)) (distinct_from (before ++ c.name ∷ []) more)
+    (subst (λ (l : List Name). not (names l c.name) ≡ true) front here)
+    (classes_differ w (before ++ c.name ∷ []) cs (append_assoc before (c.name ∷ []) more ∙ all) rest)
