@@ -18,3 +18,4 @@ pub mod ClassMembers
 pub mod TextWithoutEnd
 pub mod Declarations
 pub mod Texts
+pub mod LinkedTexts

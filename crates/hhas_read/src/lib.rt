@@ -24,6 +24,7 @@ mod keys;
 mod labels;
 mod laws;
 mod leaves;
+mod linked_texts;
 mod lists;
 mod members;
 mod named_words;
@@ -43,6 +44,7 @@ pub use atoms::{Atom, Head};
 pub use labels::is_reserved;
 pub use laws::{first_fault_is_one, text_spells_one_repository};
 pub use leaves::Written;
+pub use linked_texts::{ReadFault, read_text};
 pub use reader::{Piece, Reader, Stop};
 pub use texts::{PartsFault, read_parts};
 pub use types::TypeAtom;
@@ -60,6 +62,8 @@ mod tests_classes;
 mod tests_codes;
 #[cfg(test)]
 mod tests_items;
+#[cfg(test)]
+mod tests_links;
 #[cfg(test)]
 mod tests_members;
 #[cfg(test)]
