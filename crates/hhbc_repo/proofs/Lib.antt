@@ -12,7 +12,6 @@ pub mod TestedRuns
 pub mod Walking
 pub mod SyntaxExamples
 mod SampleExamples
-pub mod SmallSound
 pub mod HomesFound
 pub mod Inherited
 pub mod Keyed
@@ -37,3 +36,10 @@ mod FoundByName
 mod WaysUp
 pub mod MemberSteps
 pub mod BodyCounts
+pub mod KeptOnce
+pub mod SpelledTypes
+pub mod SpelledFits
+mod CanonicalExamples
+pub mod BodiesPass
+mod FewIterators
+mod WithinRanges

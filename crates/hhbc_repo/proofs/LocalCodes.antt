@@ -17,13 +17,13 @@ use Rattle.hhbc_repo.specs.Bodies.{body_at, code_of, code_at, asserts_at, tree_o
 use Rattle.hhbc_repo.specs.Bodies.{asserts_of as asserts_in_position}
 use Rattle.hhbc_repo.specs.Bare.{bare, bare_position}
 use Rattle.hhbc_ops.specs.declared.words.Flavour.{Flavour}
-use Rattle.hhbc_repo.specs.Codes.{pops}
+use Rattle.hhbc_repo.specs.Codes.{pops, slots_read, iter_use}
 use Rattle.hhbc_repo.specs.Form.{FitsCode, FitAsserts, IsSecondBody}
 use Rattle.hhbc_repo.specs.Machine.{World, Frame, turn}
 use Rattle.hhbc_repo.specs.Outcome.{Outcome, Why, Underflow, Stuck, AssertFalse}
 use Rattle.hhbc_repo.specs.Steps.{Config, Running, Ended, place_of, steps_by}
 use Rattle.hhbc_repo.specs.Run.{slot_in, and_then, test, asserts_in, asserts_of, after, entered, start, result_of}
-use Rattle.hhbc_repo.specs.Shapes.{Shape, given, agree, reaches, pops_of, Types}
+use Rattle.hhbc_repo.specs.Shapes.{Shape, AllPass, given, agree, reaches, pops_of, slots_read_of, iter_use_of, all_within, all_cells, iter_checks, Types}
 use Rattle.hhbc_repo.specs.Soundness.{Sound, Starts}
 use Rattle.hhbc_repo.specs.Soundness as soundness
 use Rattle.hhbc_repo.specs.Truth.{FirstFormNeverSticks, SecondFormNeverSticks}
@@ -151,6 +151,15 @@ module _ (r : Linked) (codes : HasLocalCodes r) (types : Types r) where
         agrees =
             subst (λ (s : Shape). agree (pops q.0.code) s.stack ≡ true) (sym here.given)
             (subst (λ o. agree (pops_of o) (given here.body p).stack ≡ true) at pass.agrees);
+        places =
+            subst (λ (s : Shape). all_within (slots_read q.0.code) (length s.stack) ≡ true) (sym here.given)
+            (subst (λ o. all_within (slots_read_of o) (length (given here.body p).stack) ≡ true) at pass.places);
+        are_cells =
+            subst (λ (s : Shape). all_cells (slots_read q.0.code) s.stack ≡ true) (sym here.given)
+            (subst (λ o. all_cells (slots_read_of o) (given here.body p).stack ≡ true) at pass.are_cells);
+        iters =
+            subst (λ (s : Shape). AllPass (iter_checks (iter_use q.0.code) s.live)) (sym here.given)
+            (subst (λ o. AllPass (iter_checks (iter_use_of o) (given here.body p).live)) at pass.iters);
       }
 
   ended_well : (c : Config) (o : Outcome) (w : World) (why : Why) → Sound (bare r) (by_shapes (bare r)) (tables (bare r) keeps) (tt {0}) c

@@ -1,10 +1,12 @@
--- A repository of one function without classes is sound.
-use Rattle.std.proofs.Common.{zero, suc, [], ◌∷◌, refl, arith}
+-- A repository of one function without classes is sound, where it has few iterators.
+use Rattle.std.proofs.Common.{◌≡◌, zero, suc, true, [], ◌∷◌, refl, arith}
+use Rattle.std.proofs.lemmas.Bool.{and_from}
 use Rattle.type_lattice.specs.Walks.{AllEnded}
 use Rattle.type_lattice.proofs.Made.{is_forest}
 use Rattle.hhbc_repo.specs.declared.body.Body.{Body}
 use Rattle.hhbc_repo.specs.Bodies.{built_in_tree}
 use Rattle.hhbc_repo.specs.LookUps.{Sound}
+use Rattle.hhbc_repo.specs.Ranges.{few_iterators}
 
 ended : AllEnded built_in_tree 6
 ended zero h = refl
@@ -15,8 +17,8 @@ ended (suc (suc (suc (suc zero)))) h = refl
 ended (suc (suc (suc (suc (suc zero))))) h = refl
 ended (suc (suc (suc (suc (suc (suc c)))))) h = absurd (omega arith)
 
-pub one_function : (b : Body) → Sound (record { functions = b ∷ []; classes = [] })
-one_function b = record {
+pub one_function : (b : Body) → few_iterators b ≡ true → Sound (record { functions = b ∷ []; classes = [] })
+one_function b h = record {
   functions = refl;
   names = refl;
   methods = refl;
@@ -25,4 +27,5 @@ one_function b = record {
   body_count = omega arith;
   class_count = omega arith;
   property_count = omega arith;
+  iterators = and_from (few_iterators b) true h refl;
 }

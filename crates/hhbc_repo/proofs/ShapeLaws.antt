@@ -15,14 +15,15 @@ use Rattle.hhbc_repo.specs.Bodies.{bodies, body_at, code_at}
 use Rattle.hhbc_ops.specs.Ops.{op_goes_on, op_throws}
 use Rattle.hhbc_ops.specs.declared.words.Flavour.{Flavour}
 use Rattle.hhbc_ops.specs.declared.words.Flavour.TheVariants.{C, U}
-use Rattle.hhbc_repo.specs.Codes.{local_of, op_pops, op_pushes, pops, pushes, throws, goes_on, labels}
+use Rattle.hhbc_repo.specs.Codes.{local_of, op_pops, op_pushes, pops, pushes, iter_use, throws, goes_on, labels}
 use Rattle.hhbc_repo.specs.Edges.{Edge, Next, To, Handler, target, edges, next_edges, handler_of}
 use Rattle.hhbc_repo.specs.Form.{FitsOperands, FitsCode}
 use Rattle.hhbc_repo.specs.Machine.{World, Frame, Turn, Goes, Calls, Returns, Raises, Ends, Fails, Sticks, with_cell, read_slot, name_or_none, perform, perform_code, turn_in}
 use Rattle.hhbc_repo.specs.Steps.{handler_in}
-use Rattle.hhbc_repo.specs.Shapes.{Shape, agree, after, behind, hands_on, caught_shape, given, shapes}
+use Rattle.hhbc_repo.specs.Shapes.{Shape, agree, after, behind, live_next, hands_on, caught_shape, given, shapes}
 use Rattle.hhbc_repo.specs.Soundness.{MayThrowAt, Led, GoesWith, Laws, IsRoundBy, At}
 use Rattle.hhbc_repo.specs.ShapeAnalysis.{AreOfFlavours, AreLive, IsOfShape, HandsOn, entry_shape, by_shapes}
+use Rattle.hhbc_repo.proofs.Walking.{no_iter}
 use Rattle.hhbc_repo.proofs.ShapeTables.{at_last, from_map, to_map, shape_at, shape_there, Passes}
 
 -- what a code that takes and puts these slots may do to a frame with these flavours on its stack
@@ -101,8 +102,8 @@ module _ (r : Linked) (keeps : Keeps r) where
       (length front, rw (at, may, is) (at_last front (Handler q)))
 
   by_turn : (f : Frame) (s : Shape) (w : World) (b : Body) (c : Code) → body_at r f.body ≡ Some b → code_at b f.position ≡ Some c
-      → IsOfShape r f s → (t : Turn) → Does (pops c) (pushes c) (goes_on c) (throws c) s.stack f t → goes_with f s w t
-  by_turn f s w b c is at h (Goes g v) k = record {
+      → iter_use c ≡ None → IsOfShape r f s → (t : Turn) → Does (pops c) (pushes c) (goes_on c) (throws c) s.stack f t → goes_with f s w t
+  by_turn f s w b c is at none h (Goes g v) k = record {
     fits = (
       behind c s,
       record {
@@ -117,22 +118,24 @@ module _ (r : Linked) (keeps : Keeps r) where
       record {
         locals = λ x e. k.4 ∙ h.locals x (subst (λ n. body_at r n ≡ Some x) k.0 e);
         stack = k.2;
-        iters = subst (λ is. AreLive is s.live) (sym k.3) h.iters;
+        iters =
+            subst (λ is. AreLive is (live_next (iter_use c) s.live)) (sym k.3)
+            (subst (λ u. AreLive f.iters (live_next u s.live)) (sym none) h.iters);
       },
       k.0,
     );
     grows = tt;
     takes = λ G t u. tt;
   }
-  by_turn f s w b c is at h (Calls g v) k = absurd k
-  by_turn f s w b c is at h (Returns x v) k = record { fits = tt; grows = tt; takes = λ G t u. tt }
-  by_turn f s w b c is at h (Raises e v) k = record {
+  by_turn f s w b c is at none h (Calls g v) k = absurd k
+  by_turn f s w b c is at none h (Returns x v) k = record { fits = tt; grows = tt; takes = λ G t u. tt }
+  by_turn f s w b c is at none h (Raises e v) k = record {
     fits = (tt, record { body = b; at = is; code = c; there = at; may = k });
     grows = tt;
     takes = λ G t u. tt;
   }
-  by_turn f s w b c is at h (Ends (Fails name) v) k = record { fits = tt; grows = tt; takes = λ G t u. tt }
-  by_turn f s w b c is at h (Ends (Sticks why) v) k = record {
+  by_turn f s w b c is at none h (Ends (Fails name) v) k = record { fits = tt; grows = tt; takes = λ G t u. tt }
+  by_turn f s w b c is at none h (Ends (Sticks why) v) k = record {
     fits = λ has.
         let x : b ≡ has.body = let e = sym is ∙ has.at in cc in
         let y : has.code ≡ c = let e = sym has.there ∙ subst (λ b. code_at b f.position ≡ Some c) x at in cc in
@@ -151,8 +154,9 @@ module _ (r : Linked) (keeps : Keeps r) where
     takes = λ G t u. tt;
   }
   at_code f s w b is (Some c) at h =
-      by_turn f s w b c is at h (perform_code (Some c) b f w)
-      (does_code (length b.locals) c b s.stack f w (keeps.codes f.body b is f.position c at) (h.locals b is) h.stack)
+      let fits = keeps.codes f.body b is f.position c at in
+      by_turn f s w b c is at (no_iter (length b.locals) c fits) h (perform_code (Some c) b f w)
+      (does_code (length b.locals) c b s.stack f w fits (h.locals b is) h.stack)
 
   at_body : (f : Frame) (s : Shape) (w : World) (o : Option Body) → body_at r f.body ≡ o → IsOfShape r f s → goes_with f s w (turn_in o f w)
   at_body f s w None is h = record { fits = λ has. let e = sym is ∙ has.at in absurd (cc); grows = tt; takes = λ G t u. tt }

@@ -13,7 +13,7 @@ use Rattle.hhbc_repo.specs.Bare.{bare, bare_body, bare_class, bare_position}
 use Rattle.hhbc_ops.specs.declared.words.Flavour.{Flavour}
 use Rattle.hhbc_ops.specs.declared.words.Flavour.TheVariants.{C, U}
 use Rattle.hhbc_repo.specs.Edges.{Edge, target, edges, edges_of}
-use Rattle.hhbc_repo.specs.Shapes.{Shape, Check, given, given_after, given_by, handed, or_unled, shapes, edge_to, after, hands_on, agree, same_live, reaches, pops_of, stack_checks, edge_checks, all_edge_checks, last_checks, checks, first_fault, fault_at}
+use Rattle.hhbc_repo.specs.Shapes.{Shape, Check, AllPass, given, given_after, given_by, handed, or_unled, shapes, edge_to, after, hands_on, agree, same_live, reaches, pops_of, slots_read_of, iter_use_of, all_within, all_cells, iter_checks, stack_checks, edge_checks, all_edge_checks, last_checks, checks, first_fault, fault_at}
 use Rattle.hhbc_repo.proofs.Walking.{shapes_length}
 
 -- an element of a list with one more behind it
@@ -70,10 +70,6 @@ shape_there b (suc n) p l = by_case (within p n l) (λ l. shape_there b n p l)
         (subst (λ m. slice_get (shapes b n ++ given b n ∷ []) m ≡ Some (given b n)) (shapes_length b n) (at_last (shapes b n) (given b n)))
 
 -- what the checks of a position say
-abbrev AllPass : List Check → Type 0
-AllPass [] = Unit {0}
-AllPass (c ∷ cs) = (c.1 ≡ true) × AllPass cs
-
 no_fault_passes : (cs : List Check) → first_fault cs ≡ None → AllPass cs
 no_fault_passes [] e = tt
 no_fault_passes (c ∷ cs) e = by_case c.1 refl e (λ e. no_fault_passes cs e)
@@ -137,6 +133,9 @@ pub record Passes (b : Body) (p : ℕ) : Type 0 where
   pub reach : reaches (asserts_at b p) (length (given b p).stack) ≡ true
   pub enough : nat_le (length (pops_of (code_at b p))) (length (given b p).stack) ≡ true
   pub agrees : agree (pops_of (code_at b p)) (given b p).stack ≡ true
+  pub places : all_within (slots_read_of (code_at b p)) (length (given b p).stack) ≡ true
+  pub are_cells : all_cells (slots_read_of (code_at b p)) (given b p).stack ≡ true
+  pub iters : AllPass (iter_checks (iter_use_of (code_at b p)) (given b p).live)
   pub edge : (i : ℕ) (e : Edge) → slice_get (edges b p) i ≡ Some e → EdgePasses b (after b p (given b p) e) (target e)
 
 both : (a c : Bool) → (a && c) ≡ true → (a ≡ true) × (c ≡ true)
@@ -146,13 +145,19 @@ both false c h = absurd (cc)
 pub passes : (b : Body) (p : ℕ) → fault_at b p ≡ None → Passes b p
 passes b p e =
     let all = no_fault_passes (checks b p) e in
-    let front = pass_front (stack_checks b p (given b p) ++ all_edge_checks b p (given b p) (edges b p)) (last_checks b p) all in
-    let slots = both (reaches (asserts_at b p) (length (given b p).stack)) (nat_le (length (pops_of (code_at b p))) (length (given b p).stack)) front.0 in
+    let iters = iter_checks (iter_use_of (code_at b p)) (given b p).live in
+    let on_edges = all_edge_checks b p (given b p) (edges b p) in
+    let slots = both (reaches (asserts_at b p) (length (given b p).stack)) _ all.0 in
+    let found = both (nat_le (length (pops_of (code_at b p))) (length (given b p).stack)) _ slots.1 in
+    let flavours = both (agree (pops_of (code_at b p)) (given b p).stack) _ all.1.0 in
     record {
       reach = slots.0;
-      enough = slots.1;
-      agrees = front.1.0;
-      edge = edges_pass b p (given b p) (edges b p) front.1.1;
+      enough = found.0;
+      agrees = flavours.0;
+      places = found.1;
+      are_cells = flavours.1;
+      iters = pass_front iters (on_edges ++ last_checks b p) all.1.1;
+      edge = edges_pass b p (given b p) (edges b p) (pass_front on_edges (last_checks b p) (pass_back iters (on_edges ++ last_checks b p) all.1.1));
     }
 
 -- a body has the same shapes without its assertions
@@ -213,6 +218,15 @@ passes_bare b p h = record {
   agrees =
       ap (λ o. agree (pops_of o) (given (bare_body b) p).stack) (code_bare b p)
       ∙ ap (λ (s : Shape). agree (pops_of (code_at b p)) s.stack) (given_bare b p) ∙ h.agrees;
+  places =
+      ap (λ o. all_within (slots_read_of o) (length (given (bare_body b) p).stack)) (code_bare b p)
+      ∙ ap (λ (s : Shape). all_within (slots_read_of (code_at b p)) (length s.stack)) (given_bare b p) ∙ h.places;
+  are_cells =
+      ap (λ o. all_cells (slots_read_of o) (given (bare_body b) p).stack) (code_bare b p)
+      ∙ ap (λ (s : Shape). all_cells (slots_read_of (code_at b p)) s.stack) (given_bare b p) ∙ h.are_cells;
+  iters =
+      subst (λ o. AllPass (iter_checks (iter_use_of o) (given (bare_body b) p).live)) (sym (code_bare b p))
+      (subst (λ (s : Shape). AllPass (iter_checks (iter_use_of (code_at b p)) s.live)) (sym (given_bare b p)) h.iters);
   edge = λ i e is.
       let x = h.edge i e (subst (λ es. slice_get es i ≡ Some e) (edges_bare b p) is) in
       record {

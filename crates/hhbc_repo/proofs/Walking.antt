@@ -13,10 +13,10 @@ use Rattle.hhbc_repo.specs.declared.body.Body.{Body}
 use Rattle.hhbc_repo.specs.declared.body.Position.{Position}
 use Rattle.hhbc_repo.specs.Linked.{Linked}
 use Rattle.hhbc_repo.specs.Bodies.{code_at, asserts_at}
-use Rattle.hhbc_repo.specs.Codes.{Flavour, C, U, labels_in, labels, op_pops, op_pushes, pops, pushes, throws, goes_on, op_goes_on}
+use Rattle.hhbc_repo.specs.Codes.{Flavour, C, U, labels_in, labels, op_pops, op_pushes, pops, pushes, slots_read, op_iter, iter_use, throws, goes_on, op_goes_on}
 use Rattle.hhbc_repo.specs.Edges.{Edge, Next, handler_of, handler_edges, next_edges, edges_of, edges}
 use Rattle.hhbc_repo.specs.Form.{FitsOperands, FitsCode, FitsPosition, FitPositions, IsReturn, IsFirstBody, IsFirstForm, FitAsserts, FitsStated, FitsClaimed, FitClaimed, IsSecondBody, IsSecondForm}
-use Rattle.hhbc_repo.specs.Shapes.{Shape, Check, ShapeKind, Underflow, WrongFlavour, TooManyCells, given, given_after, given_by, shapes, edge_to, after, behind, agree, same_live, edge_checks, all_edge_checks, last_checks, first_fault, fault_at, deepest, cells, reaches, pops_of, Types}
+use Rattle.hhbc_repo.specs.Shapes.{Shape, Check, AllPass, ShapeKind, Underflow, WrongFlavour, TooManyCells, given, given_after, given_by, shapes, edge_to, after, behind, agree, same_live, edge_checks, all_edge_checks, last_checks, first_fault, fault_at, deepest, cells, reaches, pops_of, slots_read_of, iter_use_of, all_within, all_cells, iter_checks, Types}
 use Rattle.hhbc_repo.specs.Walks.{walks, walks_asserted, TypesWhereItWalks, TypesWhereAssertedWalks}
 use Rattle.hhbc_repo.proofs.FirstForm.{only, second_is}
 
@@ -39,6 +39,31 @@ op_labels count _ _ h = absurd h
 no_labels : (count : ℕ) (c : Code) → FitsCode count c → labels c ≡ []
 no_labels count (kinds.Plain i) h = op_labels count i.op i.imms h
 no_labels count (kinds.Member m) h = absurd h
+
+-- nor do they read a slot by its place, or use an iterator
+pub no_reads : (count : ℕ) (c : Code) → FitsCode count c → slots_read c ≡ []
+no_reads count (kinds.Plain i) h = refl
+no_reads count (kinds.Member m) h = absurd h
+
+op_no_iter : (count : ℕ) (op : Op) (is : List Imm) → FitsOperands count op is → op_iter op is ≡ None
+op_no_iter count ops.Null is h = refl
+op_no_iter count ops.True is h = refl
+op_no_iter count ops.False is h = refl
+op_no_iter count ops.Int is h = refl
+op_no_iter count ops.PopC is h = refl
+op_no_iter count ops.SetL is h = refl
+op_no_iter count ops.CGetL is h = refl
+op_no_iter count ops.RetC is h = refl
+op_no_iter count _ is h = absurd h
+
+pub no_iter : (count : ℕ) (c : Code) → FitsCode count c → iter_use c ≡ None
+no_iter count (kinds.Plain i) h = op_no_iter count i.op i.imms h
+no_iter count (kinds.Member m) h = absurd h
+
+drop_true : (a b : Bool) → (a && (b && true)) ≡ (a && b)
+drop_true true true = refl
+drop_true true false = refl
+drop_true false b = refl
 
 no_handler : (t : Bool) (b : Body) (p : ℕ) → b.regions ≡ [] → handler_edges t (handler_of b p) ≡ []
 no_handler true b p e = rw e refl
@@ -240,10 +265,6 @@ low_behind count c p s w h =
     }
 
 -- checks that all pass have no fault
-abbrev AllPass : List Check → Type 0
-AllPass [] = Unit {0}
-AllPass (c ∷ cs) = (c.1 ≡ true) × AllPass cs
-
 pass_append : (xs ys : List Check) → AllPass xs → AllPass ys → AllPass (xs ++ ys)
 pass_append [] ys h k = k
 pass_append (x ∷ xs) ys h k = (h.0, pass_append xs ys h.1 k)
@@ -322,28 +343,39 @@ module _ (b : Body) (form : IsSecondBody b) where
           let n = not_on q.code (is_last _ b.positions p q form.positions e k) in
           absurd (cc)
 
+  -- the checks behind that of an underflow
+  abbrev rest_checks : ℕ → List Check
+  rest_checks p =
+      (WrongFlavour, agree (pops_of (code_at b p)) (given b p).stack && all_cells (slots_read_of (code_at b p)) (given b p).stack)
+      ∷ (iter_checks (iter_use_of (code_at b p)) (given b p).live ++ (all_edge_checks b p (given b p) (edges b p) ++ last_checks b p))
+
   rest_pass : (p : ℕ) (q : Position) → slice_get b.positions p ≡ Some q → p < length b.positions
-      → AllPass ((WrongFlavour, agree (pops_of (code_at b p)) (given b p).stack) ∷ (all_edge_checks b p (given b p) (edges b p) ++ last_checks b p))
+      → AllPass (rest_checks p)
   rest_pass p q e l =
-      let a : agree (pops_of (code_at b p)) (given b p).stack ≡ true =
-      rw (code_is b p q e) (agree_cells (pops q.code) (given b p).stack (pops_cells _ q.code (claimed_at _ b.positions p q form.positions e).fits) (low p l).cells) in (
+      let fits = (claimed_at _ b.positions p q form.positions e).fits in
+      let a : (agree (pops_of (code_at b p)) (given b p).stack && all_cells (slots_read_of (code_at b p)) (given b p).stack) ≡ true =
+      rw (code_is b p q e, no_reads _ q.code fits, agree_cells (pops q.code) (given b p).stack (pops_cells _ q.code fits) (low p l).cells) refl in
+      let none : iter_use_of (code_at b p) ≡ None = rw (code_is b p q e) (no_iter _ q.code fits) in (
         a,
-        pass_append (all_edge_checks b p (given b p) (edges b p)) (last_checks b p)
+        pass_append (iter_checks (iter_use_of (code_at b p)) (given b p).live) (all_edge_checks b p (given b p) (edges b p) ++ last_checks b p)
+            (subst (λ u. AllPass (iter_checks u (given b p).live)) (sym none) tt)
+            (pass_append (all_edge_checks b p (given b p) (edges b p)) (last_checks b p)
             (subst (λ (es : List Edge). AllPass (all_edge_checks b p (given b p) es)) (sym (edges_at _ b form.regions form.positions p q e))
             (on_edges p q e (goes_on q.code) (goes_within p q e l)))
-            (last_pass (suc p == length b.positions)),
+            (last_pass (suc p == length b.positions))),
       )
 
   -- a position passes where it finds what it takes
   pub decides : (p : ℕ) (q : Position) → slice_get b.positions p ≡ Some q → p < length b.positions
       → ((reaches q.asserts (length (given b p).stack) && nat_le (length (pops q.code)) (length (given b p).stack)) ≡ true) ↔ (fault_at b p ≡ None)
   decides p q e l =
-      let h : (reaches (asserts_at b p) (length (given b p).stack) && nat_le (length (pops_of (code_at b p))) (length (given b p).stack))
-      ≡ (reaches q.asserts (length (given b p).stack) && nat_le (length (pops q.code)) (length (given b p).stack)) = rw (asserts_are b p q e, code_is b p q e) refl in
+      let h : (reaches (asserts_at b p) (length (given b p).stack)
+      && (nat_le (length (pops_of (code_at b p))) (length (given b p).stack) && all_within (slots_read_of (code_at b p)) (length (given b p).stack)))
+      ≡ (reaches q.asserts (length (given b p).stack) && nat_le (length (pops q.code)) (length (given b p).stack)) =
+      rw (asserts_are b p q e, code_is b p q e, no_reads _ q.code (claimed_at _ b.positions p q form.positions e).fits)
+      (drop_true (reaches q.asserts (length (given b p).stack)) (nat_le (length (pops q.code)) (length (given b p).stack))) in
       subst (λ t. (t ≡ true) ↔ (fault_at b p ≡ None)) h
-      (first_decides _ Underflow
-      ((WrongFlavour, agree (pops_of (code_at b p)) (given b p).stack) ∷ (all_edge_checks b p (given b p) (edges b p) ++ last_checks b p))
-      (rest_pass p q e l))
+      (first_decides _ Underflow (rest_checks p) (rest_pass p q e l))
 
   -- the stack behind a code
   pub stack_behind : (c : Code) (s : Shape) → length (behind c s).stack ≡ length (pushes c) + (length s.stack - length (pops c))

@@ -1,5 +1,5 @@
 -- What the table of instructions says of each code.
-use Rattle.std.specs.Prelude.{ℕ, ℤ, pos, Bool, true, List, [], ◌∷◌, ◌++◌, map, flat_map, replicate}
+use Rattle.std.specs.Prelude.{ℕ, ℤ, pos, Bool, true, ◌==◌, List, [], ◌∷◌, ◌++◌, map, flat_map, replicate, Option, Some, None, if◌then◌else◌}
 use Rattle.hhbc_ops.specs.declared.op.Op.{Op}
 use Rattle.hhbc_ops.specs.declared.op.Op.TheVariants as ops
 pub use Rattle.hhbc_ops.specs.declared.words.Flavour.{Flavour}
@@ -10,6 +10,13 @@ use Rattle.hhbc_repo.specs.declared.code.Code.TheVariants as kinds
 use Rattle.hhbc_repo.specs.declared.code.Arm.{Arm}
 use Rattle.hhbc_repo.specs.declared.code.Imm.{Imm}
 use Rattle.hhbc_repo.specs.declared.code.Imm.TheVariants as imms
+use Rattle.hhbc_repo.specs.declared.code.MemberSeq.{MemberSeq}
+use Rattle.hhbc_repo.specs.declared.code.Base.{Base}
+use Rattle.hhbc_repo.specs.declared.code.Base.TheVariants as bases
+use Rattle.hhbc_repo.specs.declared.code.MemberKey.{MemberKey}
+use Rattle.hhbc_repo.specs.declared.code.MemberKey.TheVariants as keys
+use Rattle.hhbc_repo.specs.declared.code.Final.{Final}
+use Rattle.hhbc_repo.specs.declared.code.Final.TheVariants as finals
 
 -- the operand that is a local
 abbrev pub local_of : List Imm → ℕ
@@ -142,15 +149,89 @@ op_reads ops.IsTypeL is = local_of is ∷ []
 op_reads ops.VerifyParamType is = local_of is ∷ []
 op_reads _ is = []
 
--- a member sequence may throw and goes on; the slots and locals of its parts come with its first instruction
+-- the operand that is an iterator
+abbrev pub iter_of : List Imm → ℕ
+iter_of (imms.Iter i ∷ _) = i
+iter_of _ = 0
+
+-- what a code does with an iterator: it begins it at a first element, takes its next element, or ends it
+pub data IterUse : Type 0 where
+  Begin : ℕ → IterUse
+  Advance : ℕ → IterUse
+  Free : ℕ → IterUse
+
+abbrev pub op_iter : Op → List Imm → Option IterUse
+op_iter ops.IterInit is = Some (Begin (iter_of is))
+op_iter ops.IterNext is = Some (Advance (iter_of is))
+op_iter ops.IterFree is = Some (Free (iter_of is))
+op_iter _ is = None
+
+-- the slots that a member sequence takes away, the value to be set on top, and what it puts there
+abbrev pub final_stack : Final → Stack
+final_stack (finals.Query n mode k) = to_cell (some_cells n)
+final_stack (finals.Set n k) = to_cell (C ∷ some_cells n)
+final_stack (finals.SetOp n op k) = to_cell (C ∷ some_cells n)
+final_stack (finals.IncDec n op k) = to_cell (some_cells n)
+final_stack (finals.Unset n k) = takes (some_cells n)
+
+abbrev pub last_key : Final → MemberKey
+last_key (finals.Query n mode k) = k
+last_key (finals.Set n k) = k
+last_key (finals.SetOp n op k) = k
+last_key (finals.IncDec n op k) = k
+last_key (finals.Unset n k) = k
+
+-- the keys of a member sequence, in order
+abbrev pub keys_of : MemberSeq → List MemberKey
+keys_of m = m.dims ++ last_key m.last ∷ []
+
+-- the slots that are read by their places from the top, before the code
+abbrev pub base_slots : Base → List ℕ
+base_slots (bases.Local l) = []
+base_slots (bases.Stack i) = i ∷ []
+base_slots bases.This = []
+
+abbrev pub key_slots : MemberKey → List ℕ
+key_slots (keys.ElemStack i) = i ∷ []
+key_slots (keys.PropStack i) = i ∷ []
+key_slots _ = []
+
+-- the locals that are read
+abbrev pub base_locals : Base → List ℕ
+base_locals (bases.Local l) = l ∷ []
+base_locals (bases.Stack i) = []
+base_locals bases.This = []
+
+abbrev pub key_locals : MemberKey → List ℕ
+key_locals (keys.ElemLocal l) = l ∷ []
+key_locals (keys.PropLocal l) = l ∷ []
+key_locals _ = []
+
+-- a list without a number
+abbrev pub without : ℕ → List ℕ → List ℕ
+without n [] = []
+without n (m ∷ ms) = if n == m then without n ms else m ∷ without n ms
+
+-- each number once, at its first place
+abbrev pub each_once : List ℕ → List ℕ
+each_once [] = []
+each_once (n ∷ ns) = n ∷ without n (each_once ns)
+
+-- the slots that a code takes away, the topmost first, and those that it puts there
 abbrev pub pops : Code → List Flavour
 pops (kinds.Plain i) = op_pops i.op i.imms
-pops (kinds.Member m) = []
+pops (kinds.Member m) = (final_stack m.last).pops
 
 abbrev pub pushes : Code → List Flavour
 pushes (kinds.Plain i) = op_pushes i.op i.imms
-pushes (kinds.Member m) = []
+pushes (kinds.Member m) = (final_stack m.last).pushes
 
+-- the slots that a code reads by their places from the top, which are to be cells
+abbrev pub slots_read : Code → List ℕ
+slots_read (kinds.Plain i) = []
+slots_read (kinds.Member m) = base_slots m.base ++ flat_map key_slots (keys_of m)
+
+-- a member sequence may throw and goes on
 abbrev pub throws : Code → Bool
 throws (kinds.Plain i) = op_throws i.op
 throws (kinds.Member m) = true
@@ -159,9 +240,14 @@ abbrev pub goes_on : Code → Bool
 goes_on (kinds.Plain i) = op_goes_on i.op
 goes_on (kinds.Member m) = true
 
+-- the locals that a code reads, in order, each once
 abbrev pub reads_locals : Code → List ℕ
 reads_locals (kinds.Plain i) = op_reads i.op i.imms
-reads_locals (kinds.Member m) = []
+reads_locals (kinds.Member m) = each_once (base_locals m.base ++ flat_map key_locals (keys_of m))
+
+abbrev pub iter_use : Code → Option IterUse
+iter_use (kinds.Plain i) = op_iter i.op i.imms
+iter_use (kinds.Member m) = None
 
 -- the positions that an operand names
 abbrev pub labels_in : Imm → List ℕ

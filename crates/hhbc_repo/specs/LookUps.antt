@@ -8,6 +8,7 @@ use Rattle.hhbc_repo.specs.declared.repo.Property.{Property}
 use Rattle.hhbc_repo.specs.Linked.{Linked}
 use Rattle.hhbc_repo.specs.LinkFaults.{Name, place_in, at_class, first_class}
 use Rattle.hhbc_repo.specs.Names.{distinct}
+use Rattle.hhbc_repo.specs.Ranges.{few_iterators}
 use Rattle.hhbc_repo.specs.Bodies.{class_names, tree_of, bodies, body_at, own_from}
 
 -- the names of what each class declares, by class; of the built-in ones Exception alone has a property, and none has methods
@@ -88,7 +89,8 @@ abbrev pub total : List (List Name) → ℕ
 total [] = 0
 total (ns ∷ more) = length ns + total more
 
--- what linking sees to: names differ, classes descend from classes and none from itself, and all that is numbered has a number
+-- what linking sees to: names differ, classes descend from classes and none from itself, all that is numbered has a number, and
+-- no body has more than 32 iterators
 pub record Sound (r : Linked) : Type 0 where
   pub functions : distinct (function_names r.functions) ≡ true
   pub names : distinct (class_names r) ≡ true
@@ -98,3 +100,4 @@ pub record Sound (r : Linked) : Type 0 where
   pub body_count : length (bodies r) < 2 ^ 32
   pub class_count : length (class_names r) < 2 ^ 32
   pub property_count : total (all_properties r) < 2 ^ 32
+  pub iterators : list_all few_iterators (bodies r) ≡ true

@@ -11,11 +11,11 @@ use Rattle.hhbc_repo.specs.Linked.{Linked}
 use Rattle.hhbc_repo.specs.Bodies.{body_at, code_at, asserts_at}
 use Rattle.hhbc_ops.specs.declared.words.Flavour.{Flavour}
 use Rattle.hhbc_ops.specs.declared.words.Flavour.TheVariants.{C, U}
-use Rattle.hhbc_repo.specs.Codes.{pops}
+use Rattle.hhbc_repo.specs.Codes.{pops, slots_read, iter_use}
 use Rattle.hhbc_repo.specs.Edges.{Edge, target, edges}
 use Rattle.hhbc_repo.specs.Form.{FitsCode}
 use Rattle.hhbc_repo.specs.Machine.{Frame, turn}
-use Rattle.hhbc_repo.specs.Shapes.{Shape, empty_shape, after, agree, Types}
+use Rattle.hhbc_repo.specs.Shapes.{Shape, AllPass, empty_shape, after, agree, all_within, all_cells, iter_checks, Types}
 use Rattle.hhbc_repo.specs.Soundness.{Analysis, MayThrowAt}
 use Rattle.hhbc_repo.specs.Truth.{IsNeverStuck}
 
@@ -58,7 +58,7 @@ pub record HandsOn (r : Linked) (n p : ℕ) (s : Shape) (q : ℕ) (t : Shape) : 
   pub leads : q ≡ target edge
   pub shape : t ≡ after body p s edge
 
--- the position has a code, and the shape has the slots that it takes away
+-- the position has a code, and the shape has the slots that it takes away and reads, and iterators as it wants them
 pub record HasSlots (r : Linked) (n p : ℕ) (s : Shape) : Type 0 where
   pub body : Body
   pub at : body_at r n ≡ Some body
@@ -66,6 +66,9 @@ pub record HasSlots (r : Linked) (n p : ℕ) (s : Shape) : Type 0 where
   pub there : code_at body p ≡ Some code
   pub enough : nat_le (length (pops code)) (length s.stack) ≡ true
   pub agrees : agree (pops code) s.stack ≡ true
+  pub places : all_within (slots_read code) (length s.stack) ≡ true
+  pub are_cells : all_cells (slots_read code) s.stack ≡ true
+  pub iters : AllPass (iter_checks (iter_use code) s.live)
 
 abbrev pub entry_shape : Option Body → Shape
 entry_shape None = record { stack = []; live = [] }

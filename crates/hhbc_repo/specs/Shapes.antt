@@ -1,5 +1,5 @@
 -- What the stack looks like at each position, and which repositories keep to it.
-use Rattle.std.specs.Prelude.{◌≡◌, ◌≢◌, ◌⊎◌, ◌<◌, ◌*◌, ◌+◌, ℕ, zero, suc, max, Bool, true, false, ◌&&◌, not, nat_le, nat_lt, ◌==◌, List, [], ◌∷◌, ◌++◌, length, drop, replicate, Option, Some, None, if◌then◌else◌}
+use Rattle.std.specs.Prelude.{◌≡◌, ◌≢◌, ◌⊎◌, ◌<◌, ◌*◌, ◌+◌, ℕ, zero, suc, max, Bool, true, false, ◌&&◌, not, nat_le, nat_lt, ◌==◌, List, [], ◌∷◌, ◌++◌, length, drop, replicate, slice_get, slice_set, Option, Some, None, if◌then◌else◌}
 use Rattle.hhbc_repo.specs.declared.code.Code.{Code}
 use Rattle.hhbc_repo.specs.declared.body.Assert.{Assert}
 use Rattle.hhbc_repo.specs.declared.body.Assert.TheVariants as asserts
@@ -7,7 +7,7 @@ use Rattle.hhbc_repo.specs.declared.body.Body.{Body}
 use Rattle.hhbc_repo.specs.declared.body.Region.{Region}
 use Rattle.hhbc_repo.specs.Linked.{Linked}
 use Rattle.hhbc_repo.specs.Bodies.{body_at, code_at, asserts_at}
-use Rattle.hhbc_repo.specs.Codes.{Flavour, C, U, pops, pushes}
+use Rattle.hhbc_repo.specs.Codes.{Flavour, C, U, IterUse, Begin, Advance, Free, pops, pushes, slots_read, iter_use}
 use Rattle.hhbc_repo.specs.Edges.{Edge, Next, To, Handler, target, edges}
 
 -- the flavours of the stack, the topmost first, and of each iterator whether it is live
@@ -21,14 +21,35 @@ empty_shape b = record { stack = []; live = replicate b.iters false }
 abbrev pub caught_shape : Shape → Shape
 caught_shape s = record s { stack = C ∷ [] }
 
--- the shape behind a code
+-- the live iterators behind a code: one that begins is live at the next position and not at the label, where it had no
+-- element; one that takes its next element is live at the label and not at the next position, where it had none
+abbrev pub live_next : Option IterUse → List Bool → List Bool
+live_next None live = live
+live_next (Some (Begin i)) live = slice_set live i true
+live_next (Some (Advance i)) live = slice_set live i false
+live_next (Some (Free i)) live = slice_set live i false
+
+abbrev pub live_to : Option IterUse → List Bool → List Bool
+live_to None live = live
+live_to (Some (Begin i)) live = slice_set live i false
+live_to (Some (Advance i)) live = slice_set live i true
+live_to (Some (Free i)) live = slice_set live i false
+
+-- the stack that a code leaves
+abbrev pub stack_left : Code → List Flavour → List Flavour
+stack_left c stack = pushes c ++ drop (length (pops c)) stack
+
+-- the shape behind a code, at the next position and at a label
 abbrev pub behind : Code → Shape → Shape
-behind c s = record s { stack = pushes c ++ drop (length (pops c)) s.stack }
+behind c s = record { stack = stack_left c s.stack; live = live_next (iter_use c) s.live }
+
+abbrev pub at_label : Code → Shape → Shape
+at_label c s = record { stack = stack_left c s.stack; live = live_to (iter_use c) s.live }
 
 abbrev pub hands_on : Option Code → Shape → Edge → Shape
 hands_on None s e = s
 hands_on (Some c) s (Next q) = behind c s
-hands_on (Some c) s (To q) = behind c s
+hands_on (Some c) s (To q) = at_label c s
 hands_on (Some c) s (Handler q) = caught_shape s
 
 -- what a position with this shape hands on along an edge
@@ -90,6 +111,11 @@ pub data ShapeKind : Type 0 where
 abbrev pub Check : Type 0
 Check = ShapeKind × Bool
 
+-- checks that all pass
+abbrev pub AllPass : List Check → Type 0
+AllPass [] = Unit {0}
+AllPass (c ∷ cs) = (c.1 ≡ true) × AllPass cs
+
 abbrev pub same_flavour : Flavour → Flavour → Bool
 same_flavour C C = true
 same_flavour C U = false
@@ -125,11 +151,48 @@ abbrev pub pops_of : Option Code → List Flavour
 pops_of None = []
 pops_of (Some c) = pops c
 
+abbrev pub slots_read_of : Option Code → List ℕ
+slots_read_of None = []
+slots_read_of (Some c) = slots_read c
+
+abbrev pub iter_use_of : Option Code → Option IterUse
+iter_use_of None = None
+iter_use_of (Some c) = iter_use c
+
+-- the places are on a stack of so many slots
+abbrev pub all_within : List ℕ → ℕ → Bool
+all_within [] depth = true
+all_within (i ∷ is) depth = nat_lt i depth && all_within is depth
+
+abbrev pub is_cell : Option Flavour → Bool
+is_cell None = true
+is_cell (Some C) = true
+is_cell (Some U) = false
+
+-- those of the places that are on the stack are cells
+abbrev pub all_cells : List ℕ → List Flavour → Bool
+all_cells [] stack = true
+all_cells (i ∷ is) stack = is_cell (slice_get stack i) && all_cells is stack
+
 abbrev pub stack_checks : Body → ℕ → Shape → List Check
-stack_checks b p s =
-    (Underflow, reaches (asserts_at b p) (length s.stack) && nat_le (length (pops_of (code_at b p))) (length s.stack))
-    ∷ (WrongFlavour, agree (pops_of (code_at b p)) s.stack)
+stack_checks b p s = (
+  Underflow,
+  reaches (asserts_at b p) (length s.stack)
+      && (nat_le (length (pops_of (code_at b p))) (length s.stack) && all_within (slots_read_of (code_at b p)) (length s.stack)),
+)
+    ∷ (WrongFlavour, agree (pops_of (code_at b p)) s.stack && all_cells (slots_read_of (code_at b p)) s.stack)
     ∷ []
+
+abbrev pub is_live : Option Bool → Bool
+is_live None = false
+is_live (Some b) = b
+
+-- one that begins is not to be live, and one that is moved or ended is
+abbrev pub iter_checks : Option IterUse → List Bool → List Check
+iter_checks None live = []
+iter_checks (Some (Begin i)) live = (IteratorLive, not (is_live (slice_get live i))) ∷ []
+iter_checks (Some (Advance i)) live = (IteratorDead, is_live (slice_get live i)) ∷ []
+iter_checks (Some (Free i)) live = (IteratorDead, is_live (slice_get live i)) ∷ []
 
 -- an edge, what is handed on along it, and the shape of its target; the edge that gives the target its shape agrees with it
 abbrev pub edge_checks : Body → Shape → ℕ → List Check
@@ -156,9 +219,13 @@ cells b = length b.positions * (length b.locals + deepest (shapes b (length b.po
 abbrev pub last_checks : Body → ℕ → List Check
 last_checks b p = if suc p == length b.positions then (TooManyCells, nat_le (cells b) 1000000) ∷ [] else []
 
--- the checks of a position, in order; those of iterators come with the first code that has one
+-- the checks of a position with this shape, in order
+abbrev pub position_checks : Body → ℕ → Shape → List Check
+position_checks b p s =
+    stack_checks b p s ++ (iter_checks (iter_use_of (code_at b p)) s.live ++ (all_edge_checks b p s (edges b p) ++ last_checks b p))
+
 abbrev pub checks : Body → ℕ → List Check
-checks b p = stack_checks b p (given b p) ++ all_edge_checks b p (given b p) (edges b p) ++ last_checks b p
+checks b p = position_checks b p (given b p)
 
 -- the first check that fails
 abbrev pub first_fault : List Check → Option ShapeKind

@@ -6,9 +6,11 @@ mod class_chains;
 mod class_checks;
 mod class_list;
 mod code;
+mod code_facts;
 mod declared;
 mod distinct_names;
 mod first_numbers;
+mod fitting;
 mod homes;
 mod known;
 mod laws;
@@ -38,6 +40,8 @@ mod telling;
 
 pub use body::{Assert, Body, Position, Region};
 pub use code::{Arm, Base, Code, Final, Imm, Instr, MemberKey, MemberSeq};
+pub use code_facts::{code_may_throw, pops, reads_locals};
+pub use fitting::{linked_bodies_keep_to_ranges, spelled_parts_fit};
 pub use laws::{
     bare_is_first_form, first_form_never_sticks, local_codes_never_stick, runs_as_bare,
     second_form_never_sticks, types_where_asserted_walks, types_where_it_walks,
@@ -51,8 +55,3 @@ pub use parts::{
 };
 pub use repo::{Class, Const, Property, Repo};
 pub use soundness::{Analysed, facts_stay_true, rounds_stay_true, sample_is_true, tests_only_stop};
-
-#[cfg(test)]
-mod tests;
-#[cfg(test)]
-mod tests_regions;

@@ -1,5 +1,5 @@
-ghost use Rattle.std.specs.Prelude.{◌≡◌, ◌<◌, IfOk, IfSome, Some, length, slice_get};
-ghost use Rattle.hhbc_repo.specs.Bodies.{bodies, class_names, tree_of};
+ghost use Rattle.std.specs.Prelude.{◌≡◌, ◌<◌, ◌≤◌, ℕ, IfOk, IfSome, Some, length, slice_get};
+ghost use Rattle.hhbc_repo.specs.Bodies.{bodies, body_at, class_names, tree_of};
 ghost use Rattle.hhbc_repo.specs.LinkFaults.{place_in};
 ghost use Rattle.hhbc_repo.specs.LookUps.{IsMethodOf, Sound, function_names, method_of, owners, property_of};
 
@@ -97,6 +97,13 @@ impl Repo {
         })
     }
 
+    /// No body has more than 32 iterators.
+    pub fn is_sound(&self)
+        ensures { (n : ℕ) (b : Body) → body_at self.now n ≡ Some b → b.iters ≤ 32 }
+    {
+        let _ = self.functions.as_slice();
+    }
+
     /// The functions.
     pub fn functions(&self) -> &[Body]
         ensures { result.now ≡ self.now.functions }
@@ -168,7 +175,6 @@ impl Repo {
     /// The method of that name which the class has, its own before those of its ancestors, the nearest first.
     /// Its number is that of a body.
     pub fn method_of(&self, class: u32, name: &[u8]) -> Option<u32>
-        requires { class < length (class_names self.now) }
         ensures value { result ≡ method_of self.now class name.now }
         ensures meaning { IfSome result (λ number. IsMethodOf self.now class name.now number) }
     {
@@ -180,7 +186,6 @@ impl Repo {
     /// the nearest first. Properties are numbered by class, and those of a class in their order; 0 is the
     /// message of an Exception.
     pub fn property_of(&self, class: u32, name: &[u8]) -> Option<u32>
-        requires { class < length (class_names self.now) }
         ensures { result ≡ property_of self.now class name.now }
     {
         self.tree.is_forest();

@@ -29,4 +29,5 @@ invariant_of-result c =
       homes_are = c.in_ok-homes.ensures ∙ ap₂ (λ (fs : List Body) (cs : List Class). homes_of fs cs) c.as_slice-8.ensures c.as_slice-9.ensures;
       body_count = c.requires.body_count;
       class_count = c.requires.class_count;
+      iterators = c.requires.iterators;
     }
