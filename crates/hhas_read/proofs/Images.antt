@@ -4,6 +4,7 @@ use Rattle.hhas_lex.specs.Tokens.{Token}
 use Rattle.hhbc_repo.specs.Languages.{Lang, Means}
 use Rattle.hhas_read.specs.Reading.{Follow}
 use Rattle.hhas_read.proofs.Joining.{Lawful}
+use Rattle.hhas_read.proofs.Making.{made_lawful}
 use Rattle.hhas_read.proofs.Resuming.{Resumes}
 
 pub image_resumes : {U V W : Type 0} (F : Follow) (N : Lang V) (g : U → V) (f : V → W) (onto : (v : V) → (u : U) × (g u ≡ v)) (left : List Token)
@@ -17,15 +18,4 @@ image_resumes F N g f onto left = record {
 
 pub image_lawful : {U V W : Type 0} (F : Follow) (N : Lang V) (g : U → V) (f : V → W) (onto : (v : V) → (u : U) × (g u ≡ v))
     → Lawful F (λ ts (u : U). N ts (g u)) → Lawful F (Means f N)
-image_lawful F N g f onto law = record {
-  same = λ a b x y v w s t o p e.
-      let from = (onto s.value).1 in let to = (onto t.value).1 in
-      let one = law.same a b x y (onto s.value).0 (onto t.value).0 (subst (N a) (sym from) s.word) (subst (N b) (sym to) t.word) o p e in
-      (one.0, s.is ∙ ap f (sym from) ∙ ap (λ u. f (g u)) one.1 ∙ ap f to ∙ sym t.is);
-  some = record {
-    more = law.some.more;
-    value = f (g law.some.value);
-    word = record { value = g law.some.value; word = law.some.word; is = refl };
-    proper = law.some.proper;
-  };
-}
+image_lawful F N g f onto law = made_lawful F (Means f N) (λ ts u. N ts (g u)) (λ u. f (g u)) (image_resumes F N g f onto) law

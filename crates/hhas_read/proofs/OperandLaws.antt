@@ -17,6 +17,7 @@ use Rattle.hhas_read.specs.OneWord.{AnIsType}
 use Rattle.hhas_read.specs.Reading.{Tagged, any}
 use Rattle.hhas_read.specs.Written.{ends_type}
 use Rattle.hhas_read.proofs.Joining.{Lawful}
+use Rattle.hhas_read.proofs.OneAtom.{a_word}
 use Rattle.hhas_read.proofs.OneToken.{single_lawful}
 use Rattle.hhas_read.proofs.Said.{same_integer, same_word, same_string}
 use Rattle.hhas_read.proofs.Operands.{index_lawful, set_op_lawful, change_lawful, same_some}
@@ -27,9 +28,6 @@ use Rattle.hhas_read.proofs.ArmForms.{label_lawful}
 use Rattle.hhas_read.proofs.ArmLaws.{arms_lawful, string_arms_lawful}
 use Rattle.hhas_read.proofs.OperandForms.{spelled_lawful, iter_operand, int, count, text, name, variable, iter, target, class, change, set_op, is_type, switch, string_switch, locals, constraint}
 use Rattle.hhas_read.proofs.TypeLaws.{constraint_law}
-
-word_lawful : Lawful any AWord
-word_lawful = single_lawful Word any (codes "a") refl same_word
 
 same_is_type : (a b : IsTypeOp) → Word (is_type_name a) ≡ Word (is_type_name b) → a ≡ b
 same_is_type a b e =
@@ -47,11 +45,11 @@ pub operand_law : (kind : ImmKind) → Lawful (after kind) (Operand kind)
 operand_law kinds.Int = spelled_lawful any kinds.Int AnInteger imms.Int int (single_lawful Integer any (pos 0) refl same_integer)
 operand_law kinds.Count = spelled_lawful any kinds.Count AnIndex imms.Count count index_lawful
 operand_law kinds.Str = spelled_lawful any kinds.Str AString imms.Str text (single_lawful Str any [] refl same_string)
-operand_law kinds.Name = spelled_lawful any kinds.Name AWord imms.Name name word_lawful
+operand_law kinds.Name = spelled_lawful any kinds.Name AWord imms.Name name a_word
 operand_law kinds.Local = spelled_lawful any kinds.Local ALocal imms.Local variable local_lawful
 operand_law kinds.Iter = spelled_lawful any kinds.Iter AnIndex imms.Iter iter index_lawful
 operand_law kinds.Label = spelled_lawful any kinds.Label ALabel imms.Pos target label_lawful
-operand_law kinds.Class = spelled_lawful any kinds.Class AWord imms.Class class word_lawful
+operand_law kinds.Class = spelled_lawful any kinds.Class AWord imms.Class class a_word
 operand_law kinds.IncDec = spelled_lawful any kinds.IncDec AChange imms.IncDec change change_lawful
 operand_law kinds.SetOp = spelled_lawful any kinds.SetOp ASetOp imms.SetOp set_op set_op_lawful
 operand_law kinds.IsType = spelled_lawful any kinds.IsType AnIsType imms.IsType is_type is_type_lawful

@@ -51,26 +51,12 @@ pub use types::TypeAtom;
 pub use whole_types::WrittenType;
 
 #[cfg(test)]
-mod tests;
-#[cfg(test)]
-mod tests_arms;
-#[cfg(test)]
-mod tests_bodies;
-#[cfg(test)]
-mod tests_classes;
-#[cfg(test)]
-mod tests_codes;
-#[cfg(test)]
-mod tests_items;
+mod tests_limits;
 #[cfg(test)]
 mod tests_links;
 #[cfg(test)]
-mod tests_members;
-#[cfg(test)]
-mod tests_positions;
+mod tests_look_ups;
 #[cfg(test)]
 mod tests_texts;
 #[cfg(test)]
-mod type_parts_tests;
-#[cfg(test)]
-mod type_tests;
+mod tests_values;
