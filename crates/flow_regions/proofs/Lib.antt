@@ -1,0 +1,4 @@
+pub mod ToldEdges
+pub mod Handled
+pub mod Marking
+pub mod Guarding

@@ -1,0 +1,4 @@
+pub mod EdgeLists
+pub mod BlockStarts
+pub mod Marks
+pub mod Guarded

@@ -1,0 +1,5 @@
+pub mod Written
+pub mod TypesWritten
+pub mod Counted
+pub mod Turning
+pub mod Whole

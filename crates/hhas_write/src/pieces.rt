@@ -1,0 +1,255 @@
+//! Tokens, and the white space before them.
+
+ghost use Rattle.std.specs.Prelude.{◌≡◌, ◌++◌, [], ◌∷◌, ◌<◌, ◌/◌, ◌%◌, IfOk, OnOk, pos};
+ghost use Rattle.std.specs.List.{flat_map};
+ghost use Rattle.hhas_lex.specs.Spaced.{text_of};
+ghost use Rattle.hhas_lex.specs.Spelling.{escaped, hex_digit, spelling};
+ghost use Rattle.hhas_lex.specs.Tokens as token;
+ghost use Rattle.hhbc_repo.specs.Canonical.{label_called};
+ghost use Rattle.hhbc_repo.specs.CanonicalText.{indent, line, spaced, tagged, tight, type_pieces};
+ghost use Rattle.hhbc_repo.specs.WrittenTypes.{canonical_type};
+
+use hack_values::{NoMemory, Text};
+use std::alloc::Global;
+use type_lattice::{HType, type_text};
+
+/// Ends the line, and begins one within so many braces.
+fn push_line(out: &mut Text, depth: usize) -> Result<(), NoMemory>
+    ensures { OnOk result (out.new ≡ out.old ++ 10 ∷ indent depth) }
+{
+    out.append(b"\n")?;
+    for _ in 0..depth {
+        out.append(b"  ")?;
+    }
+    Ok(())
+}
+
+/// A line that begins with a word.
+pub(crate) fn line_word(out: &mut Text, depth: usize, word: &[u8]) -> Result<(), NoMemory>
+    ensures { OnOk result (out.new ≡ out.old ++ text_of (line depth (token.Word word.now) ∷ [])) }
+{
+    push_line(out, depth)?;
+    out.append(word)
+}
+
+/// A line that begins with a directive.
+pub(crate) fn line_directive(out: &mut Text, depth: usize, word: &[u8]) -> Result<(), NoMemory>
+    ensures { OnOk result (out.new ≡ out.old ++ text_of (line depth (token.Directive word.now) ∷ [])) }
+{
+    push_line(out, depth)?;
+    out.append(b".")?;
+    out.append(word)
+}
+
+/// A line that begins with a closing brace.
+pub(crate) fn line_close(out: &mut Text, depth: usize) -> Result<(), NoMemory>
+    ensures { OnOk result (out.new ≡ out.old ++ text_of (line depth (token.Mark 125) ∷ [])) }
+{
+    push_line(out, depth)?;
+    out.append(b"}")
+}
+
+/// An opening brace.
+pub(crate) fn spaced_open(out: &mut Text) -> Result<(), NoMemory>
+    ensures { OnOk result (out.new ≡ out.old ++ text_of (spaced (token.Mark 123) ∷ [])) }
+{
+    out.append(b" {")
+}
+
+pub(crate) fn spaced_word(out: &mut Text, word: &[u8]) -> Result<(), NoMemory>
+    ensures { OnOk result (out.new ≡ out.old ++ text_of (spaced (token.Word word.now) ∷ [])) }
+{
+    out.append(b" ")?;
+    out.append(word)
+}
+
+pub(crate) fn spaced_directive(out: &mut Text, word: &[u8]) -> Result<(), NoMemory>
+    ensures { OnOk result (out.new ≡ out.old ++ text_of (spaced (token.Directive word.now) ∷ [])) }
+{
+    out.append(b" .")?;
+    out.append(word)
+}
+
+pub(crate) fn push_local(out: &mut Text, name: &[u8]) -> Result<(), NoMemory>
+    ensures { OnOk result (out.new ≡ out.old ++ spelling (token.Local name.now)) }
+{
+    out.append(b"$")?;
+    out.append(name)
+}
+
+pub(crate) fn spaced_local(out: &mut Text, name: &[u8]) -> Result<(), NoMemory>
+    ensures { OnOk result (out.new ≡ out.old ++ text_of (spaced (token.Local name.now) ∷ [])) }
+{
+    out.append(b" ")?;
+    push_local(out, name)
+}
+
+pub(crate) fn push_int(alloc: Global, out: &mut Text, number: i64) -> Result<(), NoMemory>
+    ensures { OnOk result (out.new ≡ out.old ++ spelling (token.Integer number)) }
+{
+    let digits = format!(in alloc; "{number}")?;
+    out.append(digits.as_bytes())
+}
+
+pub(crate) fn spaced_int(alloc: Global, out: &mut Text, number: i64) -> Result<(), NoMemory>
+    ensures { OnOk result (out.new ≡ out.old ++ text_of (spaced (token.Integer number) ∷ [])) }
+{
+    out.append(b" ")?;
+    push_int(alloc, out, number)
+}
+
+pub(crate) fn push_count(alloc: Global, out: &mut Text, number: u16) -> Result<(), NoMemory>
+    ensures { OnOk result (out.new ≡ out.old ++ spelling (token.Integer (pos number))) }
+{
+    let digits = format!(in alloc; "{number}")?;
+    out.append(digits.as_bytes())
+}
+
+pub(crate) fn spaced_count(alloc: Global, out: &mut Text, number: u16) -> Result<(), NoMemory>
+    ensures { OnOk result (out.new ≡ out.old ++ text_of (spaced (token.Integer (pos number)) ∷ [])) }
+{
+    out.append(b" ")?;
+    push_count(alloc, out, number)
+}
+
+fn hex_digit(digit: u8) -> u8
+    requires { digit < 16 }
+    ensures { result ≡ hex_digit digit }
+{
+    if digit < 10 {
+        b'0' + digit
+    } else {
+        b'a' - 10 + digit
+    }
+}
+
+/// A byte as a string spells it.
+fn push_escaped(out: &mut Text, byte: u8) -> Result<(), NoMemory>
+    ensures { OnOk result (out.new ≡ out.old ++ escaped byte) }
+{
+    if byte == b'\n' {
+        out.append(&[b'\\', b'n'])
+    } else if byte == b'"' || byte == b'\\' {
+        out.append(&[b'\\', byte])
+    } else if 32 <= byte && byte <= 126 {
+        out.append(&[byte])
+    } else {
+        out.append(&[b'\\', b'x', hex_digit(byte / 16), hex_digit(byte % 16)])
+    }
+}
+
+fn push_all_escaped(out: &mut Text, bytes: &[u8]) -> Result<(), NoMemory>
+    ensures { OnOk result (out.new ≡ out.old ++ flat_map escaped bytes.now) }
+{
+    for byte in bytes {
+        push_escaped(out, *byte)?;
+    }
+    Ok(())
+}
+
+/// A string in its quotes.
+pub(crate) fn push_string(out: &mut Text, bytes: &[u8]) -> Result<(), NoMemory>
+    ensures { OnOk result (out.new ≡ out.old ++ spelling (token.Str bytes.now)) }
+{
+    out.append(b"\"")?;
+    push_all_escaped(out, bytes)?;
+    out.append(b"\"")
+}
+
+pub(crate) fn spaced_string(out: &mut Text, bytes: &[u8]) -> Result<(), NoMemory>
+    ensures { OnOk result (out.new ≡ out.old ++ text_of (spaced (token.Str bytes.now) ∷ [])) }
+{
+    out.append(b" ")?;
+    push_string(out, bytes)
+}
+
+/// A word and its colon.
+fn push_tag(out: &mut Text, word: &[u8]) -> Result<(), NoMemory>
+    ensures { OnOk result (out.new ≡ out.old ++ 32 ∷ (word.now ++ 58 ∷ [])) }
+{
+    out.append(b" ")?;
+    out.append(word)?;
+    out.append(b":")
+}
+
+pub(crate) fn tagged_word(out: &mut Text, word: &[u8], name: &[u8]) -> Result<(), NoMemory>
+    ensures { OnOk result (out.new ≡ out.old ++ text_of (tagged word.now (token.Word name.now))) }
+{
+    push_tag(out, word)?;
+    out.append(name)
+}
+
+pub(crate) fn tagged_local(out: &mut Text, word: &[u8], name: &[u8]) -> Result<(), NoMemory>
+    ensures { OnOk result (out.new ≡ out.old ++ text_of (tagged word.now (token.Local name.now))) }
+{
+    push_tag(out, word)?;
+    push_local(out, name)
+}
+
+pub(crate) fn tagged_string(out: &mut Text, word: &[u8], bytes: &[u8]) -> Result<(), NoMemory>
+    ensures { OnOk result (out.new ≡ out.old ++ text_of (tagged word.now (token.Str bytes.now))) }
+{
+    push_tag(out, word)?;
+    push_string(out, bytes)
+}
+
+pub(crate) fn tagged_int(
+    alloc: Global,
+    out: &mut Text,
+    word: &[u8],
+    number: i64,
+) -> Result<(), NoMemory>
+    ensures { OnOk result (out.new ≡ out.old ++ text_of (tagged word.now (token.Integer number))) }
+{
+    push_tag(out, word)?;
+    push_int(alloc, out, number)
+}
+
+pub(crate) fn tagged_count(
+    alloc: Global,
+    out: &mut Text,
+    word: &[u8],
+    number: u16,
+) -> Result<(), NoMemory>
+    ensures { OnOk result (out.new ≡ out.old ++ text_of (tagged word.now (token.Integer (pos number)))) }
+{
+    push_tag(out, word)?;
+    push_count(alloc, out, number)
+}
+
+/// A label by its number.
+pub(crate) fn push_label(alloc: Global, out: &mut Text, label: usize) -> Result<(), NoMemory>
+    ensures { OnOk result (out.new ≡ out.old ++ label_called label) }
+{
+    let digits = format!(in alloc; "{label}")?;
+    out.append(b"L")?;
+    out.append(digits.as_bytes())
+}
+
+/// The line of a label.
+pub(crate) fn line_label(
+    alloc: Global,
+    out: &mut Text,
+    depth: usize,
+    label: usize,
+) -> Result<(), NoMemory>
+    ensures { OnOk result (out.new ≡ out.old ++ text_of (line depth (token.Word (label_called label)) ∷ tight (token.Mark 58) ∷ [])) }
+{
+    push_line(out, depth)?;
+    push_label(alloc, out, label)?;
+    out.append(b":")
+}
+
+/// A type, given the names of all classes.
+pub(crate) fn spaced_type(
+    alloc: Global,
+    out: &mut Text,
+    classes: &[Text],
+    t: &HType,
+) -> Result<(), NoMemory>
+    ensures { OnOk result (out.new ≡ out.old ++ text_of (type_pieces (canonical_type classes.now t.now))) }
+{
+    let written = type_text(alloc, t, classes)?;
+    out.append(b" ")?;
+    out.append(written.bytes())
+}

@@ -1,0 +1,9 @@
+pub mod Bodies
+pub mod Flags
+pub mod Following
+pub mod LayoutRule
+pub mod Lives
+pub mod Stopping
+pub mod Visiting
+pub mod Walking
+pub mod Catches

@@ -1,0 +1,16 @@
+//! Stacks and iterators have one shape at each position of a body, whichever way a run comes there.
+#![tactic(auto)]
+
+mod checks;
+mod edges;
+mod effects;
+mod known;
+mod shape;
+mod verified;
+mod walk;
+
+pub use shape::{Shape, ShapeFault, ShapeKind, VerifyFault};
+pub use verified::{Verified, verify};
+
+#[cfg(test)]
+mod tests;
