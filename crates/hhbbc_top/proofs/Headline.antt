@@ -1,35 +1,44 @@
 -- What the laws say of a text that was read, and of one that wasn't.
-use Rattle.std.proofs.Common.{◌≡◌, ◌≢◌, ◌≤◌, ◌<◌, Bool, true, false, arith, ◌⊎◌, inl, inr, ℕ, refl, sym, ◌∙◌, ap, subst, List, [], ◌∷◌, ◌++◌, append-nil, map, codes, Option, Some, None, Result, Ok, Err, length}
-use Rattle.std.specs.Prelude.{IfSome}
+use Rattle.std.proofs.Common.{◌≡◌, ◌≢◌, ◌≤◌, ◌<◌, Bool, true, false, arith, inl, inr, ℕ, refl, sym, ◌∙◌, ap, subst, List, [], ◌∷◌, ◌++◌, append-nil, map, codes, Option, Some, None, Result, Ok, Err, length}
+use Rattle.std.specs.Prelude.{◌⊎◌, IfOk, IfSome}
+use Rattle.hack_values.specs.declared.memory.NoMemory.{NoMemory as Want}
 use Rattle.std.specs.Io.KnownBytes.{Consumes, IsAtEnd}
 use Rattle.hh_io.specs.Sources.{IsWithin}
-use Rattle.std.proofs.lemmas.Option.{none-some, same_Some}
+use Rattle.hhbc_repo.specs.declared.link_fault.LinkFault.{LinkFault}
+use Rattle.hhbc_repo.specs.declared.body.Position.{Position}
 use Rattle.hhbc_repo.specs.Linked.{Linked}
-use Rattle.func_analyze.specs.Laws.{BareChainAnnotates, SecondIsFaithful, SecondIsUnique}
-use Rattle.func_analyze.specs.Chain.{annotated_by}
-use Rattle.hhbbc_top.specs.declared.form.Main.{Main}
-use Rattle.hhbbc_top.specs.declared.status.Status.{Status}
-use Rattle.hhbbc_top.specs.declared.status.Status.TheVariants.{Done, Uncaught, StepsSpent, AssertFalse, Usage, TooLong, NoMemory, NotYet, ReadFault, WriteFault}
-use Rattle.hhbbc_top.specs.Answer.{limit_of, line_of, ran, status_of, out_of, line_to, status_of_answer, out_of_answer, line_of_answer, Accepts, Answers, IsAnswer, IsAnnotatedText, IsExpected, IsOtherText, Obeys, OfCommand}
-use Rattle.hhbbc_top.specs.Commands.{AnswersTo, Does, Makes}
-use Rattle.hhbbc_top.specs.Report.{HasStatus}
-use Rattle.hhbbc_top.specs.declared.top.Answer.{Answer}
-use Rattle.hhbbc_top.specs.declared.words.Command.{Command}
-use Rattle.hhbbc_top.specs.declared.words.Command.TheVariants.{Analyze, Run}
+use Rattle.hhbc_repo.specs.Bare.{bare, bare_position}
+use Rattle.hhbc_repo.specs.Form.{IsSecondForm}
+use Rattle.hhbc_repo.specs.Shapes.{Types}
+use Rattle.hhbc_repo.specs.TextSyntax.{FirstFault}
+use Rattle.hhbc_repo.specs.Truth.{IsNeverStuck, SecondFormNeverSticks}
 use Rattle.hhbc_repo.specs.Outcome as outcomes
 use Rattle.hhbc_repo.specs.Outcome.{Outcome, Underflow}
 use Rattle.hhbc_repo.specs.Run.{Result as Ran, run}
+use Rattle.hhas_read.specs.LinkedTexts.{LinksWithFault, ReadsRepository}
+use Rattle.func_analyze.specs.Laws.{AreWords, BareChainAnnotates, SecondIsFaithful, SecondIsUnique}
+use Rattle.func_analyze.specs.Annotated.{IsAnnotated}
+use Rattle.func_analyze.specs.Chain.{annotated_by}
+use Rattle.hhbbc_top.specs.declared.form.Line.{Line}
+use Rattle.hhbbc_top.specs.declared.form.Main.{Main}
+use Rattle.hhbbc_top.specs.declared.form.Unfit.{Unfit}
+use Rattle.hhbbc_top.specs.declared.form.Unfit.TheVariants as unfits
 use Rattle.hhbbc_top.specs.declared.machine.Ending.{Ending}
 use Rattle.hhbbc_top.specs.declared.machine.Ending.TheVariants as endings
-use Rattle.hhbbc_top.specs.Running.{outcome_of}
-use Rattle.hhbc_repo.specs.Truth.{IsNeverStuck, SecondFormNeverSticks}
-use Rattle.hhbbc_top.specs.ReadText.{limit, IsReadText, ReadingIsSound, ReadingIsComplete, ReadTextHasWords}
+use Rattle.hhbbc_top.specs.declared.status.Status.{Status}
+use Rattle.hhbbc_top.specs.declared.status.Status.TheVariants.{Done, Uncaught, StepsSpent, AssertFalse, Usage, BadText, BadLink, TooLong, NoMemory, NotYet, ReadFault, WriteFault}
+use Rattle.hhbbc_top.specs.declared.top.Answer.{Answer}
+use Rattle.hhbbc_top.specs.declared.words.Command.{Command}
+use Rattle.hhbbc_top.specs.declared.words.Command.TheVariants.{Check, Analyze, Run}
+use Rattle.hhbbc_top.specs.Answer.{limit_of, line_of, ran, status_of, out_of, line_to, status_of_answer, out_of_answer, line_of_answer, Accepts, Answers, Expects, HasTextFault, HasLinkFault, IsAnswer, IsAnnotatedText, IsExpected, IsOrWants, IsOtherText, IsUnserved, Obeys, OfCommand, status_of_unfit, told}
+use Rattle.hhbbc_top.specs.Commands.{AnswersTo, Does, Goes, Makes, Serves, Stops}
+use Rattle.hhbbc_top.specs.FaultLines.{bad_text, bad_link}
 use Rattle.hhbbc_top.specs.Forms.{position_of, bare_of, repo_of, bare_repo_of, annotated_text}
-use Rattle.hhbbc_top.specs.declared.form.Line.{Line}
-use Rattle.hhbc_repo.specs.declared.body.Position.{Position}
-use Rattle.hhbc_repo.specs.Bare.{bare, bare_position}
-use Rattle.func_analyze.specs.Annotated.{IsAnnotated}
-use Rattle.hhbbc_top.specs.Reading.{main_of}
+use Rattle.hhbbc_top.specs.Mains.{IsMainOf}
+use Rattle.hhbbc_top.specs.ReadText.{IsReadText, SpellsOne, SpelledIsFaultless}
+use Rattle.hhbbc_top.specs.Report.{HasStatus}
+use Rattle.hhbbc_top.specs.Running.{outcome_of}
+use Rattle.hhbbc_top.proofs.OneText.{one-repository, links-or-not, read-or-not, linked-or-not}
 
 -- codes without their assertions
 bare-lines : (lines : List Line) → map bare_position (map position_of lines) ≡ map bare_of lines
@@ -42,43 +51,47 @@ bare-is m = λ i. record {
   classes = [];
 }
 
--- one repository is read of a text
-only-one : ReadingIsComplete → (bytes : List ℕ) (m : Main) → main_of bytes ≡ Some m → (other : Linked) → IsReadText bytes other → other ≡ repo_of m
-only-one complete bytes m e other w =
-    let h : (k : Main) × (main_of bytes ≡ Some k) × (other ≡ repo_of k) = complete bytes other w in h.2 ∙ ap repo_of (same_Some h.0 m (sym h.1 ∙ e))
+-- the repository of a text, as the function that is all of it
+main-read : (bytes : List ℕ) (r : Linked) (m : Main) → ReadsRepository bytes r → IsMainOf r m → IsReadText bytes (repo_of m)
+main-read bytes r m a h = subst (λ (s : Linked). IsReadText bytes s) h.is (record { reads = a; form = h.form; types = h.types })
 
-annotated-text : ReadingIsSound → ReadingIsComplete → BareChainAnnotates → SecondIsFaithful → ReadTextHasWords → SecondIsUnique → (bytes : List ℕ) (m : Main) (out : List ℕ) → length bytes ≤ limit → main_of bytes ≡ Some m → out ≡ annotated_text m
-    → IsAnnotatedText bytes out
-annotated-text sound complete annotates faithful words unique bytes m out short e written =
-    let read = sound bytes m short e in
-    let is = subst (λ (r : Linked). IsAnnotated 10 (repo_of m) (annotated_by r)) (bare-is m) (annotates (repo_of m) read.form 9) in
+only-one : SpellsOne → (bytes : List ℕ) (r : Linked) → ReadsRepository bytes r → (other : Linked) → IsReadText bytes other → other ≡ r
+only-one one bytes r a other w = one-repository one bytes other r w.reads a
+
+-- what the laws say of annotated texts
+pub record Laws : Type 0 where
+  pub one : SpellsOne
+  pub annotates : BareChainAnnotates
+  pub faithful : SecondIsFaithful
+  pub unique : SecondIsUnique
+
+annotated-text : Laws → (bytes : List ℕ) (r : Linked) (m : Main) (out : List ℕ) → ReadsRepository bytes r → IsMainOf r m → out ≡ annotated_text m → IsAnnotatedText bytes out
+annotated-text laws bytes r m out a h written =
+    let bare-of : bare r ≡ bare_repo_of m = ap bare h.is ∙ bare-is m in
+    let is : IsAnnotated 10 r (annotated_by (bare_repo_of m)) = subst (λ (s : Linked). IsAnnotated 10 r (annotated_by s)) bare-of (laws.annotates r h.form 9) in
     record {
-      repo = repo_of m;
-      read = read;
-      only = only-one complete bytes m e;
+      repo = r;
+      read = record { reads = a; form = h.form; types = h.types };
+      only = only-one laws.one bytes r a;
       annotated = annotated_by (bare_repo_of m);
       is = is;
-      unique = λ other w. subst (λ (r : Linked). other ≡ annotated_by r) (bare-is m) (unique (repo_of m) other read.form (words bytes (repo_of m) read) 9 w);
-      faithful = faithful (repo_of m) (annotated_by (bare_repo_of m)) read.form read.types 9 is;
+      unique = λ other w. subst (λ (s : Linked). other ≡ annotated_by s) bare-of (laws.unique r other h.form h.words 9 w);
+      faithful = laws.faithful r (annotated_by (bare_repo_of m)) h.form h.types 9 is;
       written = written;
     }
 
-pub other-text : ReadingIsComplete → (bytes : List ℕ) → main_of bytes ≡ None → IsOtherText bytes
-other-text complete bytes e r w = let h : (m : Main) × (main_of bytes ≡ Some m) × (r ≡ repo_of m) = complete bytes r w in none-some h.0 (sym e ∙ h.1)
-
 -- what a command makes of the function of a text is what it answers to the text
-answered : ReadingIsSound → ReadingIsComplete → BareChainAnnotates → SecondIsFaithful → ReadTextHasWords → SecondIsUnique
-    → (c : Command) (bytes : List ℕ) (m : Main) (s : Status) (out line : List ℕ) → length bytes ≤ limit → main_of bytes ≡ Some m
+answered : Laws → (c : Command) (bytes : List ℕ) (r : Linked) (m : Main) (s : Status) (out line : List ℕ) → ReadsRepository bytes r → IsMainOf r m
     → Makes c m s out line → Answers c bytes s out line
-answered sound complete annotates faithful words unique Analyze bytes m s out line short e h =
-    (h.0, annotated-text sound complete annotates faithful words unique bytes m out short e h.1, h.2)
-answered sound complete annotates faithful words unique (Run steps asserted) bytes m s out line short e h = record {
+answered laws Check bytes r m s out line a h k = absurd k
+answered laws Analyze bytes r m s out line a h k = (k.0, annotated-text laws bytes r m out a h k.1, k.2)
+answered laws (Run steps asserted) bytes r m s out line a h k = record {
   repo = repo_of m;
-  read = sound bytes m short e;
-  only = only-one complete bytes m e;
-  status = h.0;
-  output = h.1;
-  line = h.2;
+  read = main-read bytes r m a h;
+  only = λ other w. only-one laws.one bytes r a other w ∙ h.is;
+  status = k.0;
+  output = k.1;
+  line = k.2;
 }
 
 -- the statuses of texts that were read
@@ -88,6 +101,8 @@ ends_well Uncaught = true
 ends_well StepsSpent = true
 ends_well AssertFalse = true
 ends_well Usage = false
+ends_well BadText = false
+ends_well BadLink = false
 ends_well TooLong = false
 ends_well NoMemory = false
 ends_well NotYet = false
@@ -105,6 +120,7 @@ run-ends outcomes.UnknownEntry s h = absurd h
 run-ends outcomes.WrongCount s h = absurd h
 
 all-end : (c : Command) (bytes : List ℕ) (s : Status) (out line : List ℕ) → Answers c bytes s out line → ends_well s ≡ true
+all-end Check bytes s out line h = absurd h
 all-end Analyze bytes s out line h = ap ends_well h.0
 all-end (Run steps asserted) bytes s out line h = run-ends (ran h.repo steps asserted).outcome s h.status
 
@@ -114,6 +130,8 @@ told-as c bytes Uncaught out line e h = h
 told-as c bytes StepsSpent out line e h = h
 told-as c bytes AssertFalse out line e h = h
 told-as c bytes Usage out line e h = absurd (cc)
+told-as c bytes BadText out line e h = absurd (cc)
+told-as c bytes BadLink out line e h = absurd (cc)
 told-as c bytes TooLong out line e h = absurd (cc)
 told-as c bytes NoMemory out line e h = absurd (cc)
 told-as c bytes NotYet out line e h = absurd (cc)
@@ -121,18 +139,48 @@ told-as c bytes ReadFault out line e h = absurd (cc)
 told-as c bytes WriteFault out line e h = absurd (cc)
 
 -- what is answered to a text that was read
-pub answer-of : ReadingIsSound → ReadingIsComplete → BareChainAnnotates → SecondIsFaithful → ReadTextHasWords → SecondIsUnique
-    → (c : Command) (bytes : List ℕ) (m : Main) (r : Result Answer Status) → length bytes ≤ limit → main_of bytes ≡ Some m
-    → Does c m r → AnswersTo c bytes (status_of r) (out_of r) (line_to r)
-answer-of sound complete annotates faithful words unique c bytes m (Ok a) short e h =
-    let is = answered sound complete annotates faithful words unique c bytes m (status_of_answer a) (out_of_answer a) (line_of_answer a) short e h in
+pub served-as : Laws → (c : Command) (bytes : List ℕ) (r : Linked) (o : Result Answer Status) → ReadsRepository bytes r → Serves c r o
+    → AnswersTo c bytes (status_of o) (out_of o) (line_to o)
+served-as laws c bytes r (Ok a) w h =
+    let is = answered laws c bytes r h.main (status_of_answer a) (out_of_answer a) (line_of_answer a) w h.is h.makes in
     told-as c bytes (status_of_answer a) (out_of_answer a) (line_of_answer a) (all-end c bytes (status_of_answer a) (out_of_answer a) (line_of_answer a) is) is
-answer-of sound complete annotates faithful words unique c bytes m (Err s) short e h =
-    subst (λ (t : Status). AnswersTo c bytes t [] (line_of t)) (sym h) (refl, refl)
+served-as laws c bytes r (Err NoMemory) w h = (refl, refl)
+served-as laws c bytes r (Err NotYet) w h = (record { repo = r; reads = w; unserved = h }, (refl, refl))
+served-as laws c bytes r (Err Done) w h = absurd h
+served-as laws c bytes r (Err Uncaught) w h = absurd h
+served-as laws c bytes r (Err StepsSpent) w h = absurd h
+served-as laws c bytes r (Err AssertFalse) w h = absurd h
+served-as laws c bytes r (Err Usage) w h = absurd h
+served-as laws c bytes r (Err BadText) w h = absurd h
+served-as laws c bytes r (Err BadLink) w h = absurd h
+served-as laws c bytes r (Err TooLong) w h = absurd h
+served-as laws c bytes r (Err ReadFault) w h = absurd h
+served-as laws c bytes r (Err WriteFault) w h = absurd h
+
+-- a fault is told with its line, where there is memory for it
+pub text_told : (c : Command) (bytes : List ℕ) (at : ℕ) (line : Result (List ℕ) Want) → FirstFault bytes at → IfOk line (λ l. l ≡ bad_text at)
+    → AnswersTo c bytes (status_of (told BadText line)) (out_of (told BadText line)) (line_to (told BadText line))
+text_told c bytes at (Ok line) h e = (at, h, (refl, e))
+text_told c bytes at (Err w) h e = (refl, refl)
+
+pub link_told : (c : Command) (bytes : List ℕ) (f : LinkFault) (line : Result (List ℕ) Want) → LinksWithFault bytes f → IfOk line (λ l. l ≡ bad_link f)
+    → AnswersTo c bytes (status_of (told BadLink line)) (out_of (told BadLink line)) (line_to (told BadLink line))
+link_told c bytes f (Ok line) h e = (f, h, (refl, e))
+link_told c bytes f (Err w) h e = (refl, refl)
+
+-- a repository that isn't gone on with
+pub left-as : (c : Command) (r : Linked) (u : Unfit) → (◌≡◌ {A = Result Main Unfit} (Err u) (Err unfits.OtherForm) → IsUnserved c r) → Stops c r (status_of_unfit u)
+left-as c r unfits.OtherForm h = h refl
+left-as c r unfits.NoMemory h = tt
+
+-- a command goes on with the function that is all of a repository, or stops
+pub goes-with : (c : Command) (r : Linked) (m : Main) (o : Result Answer Status) → IsMainOf r m → Does c m o → Serves c r o
+goes-with c r m (Ok a) h k = record { main = m; is = h; makes = k }
+goes-with c r m (Err s) h k = subst (λ (t : Status). Serves c r (Err t)) (sym k) tt
 
 -- no run of what was read is stuck
-pub never-stuck : ReadingIsSound → SecondFormNeverSticks → (bytes : List ℕ) (m : Main) → length bytes ≤ limit → main_of bytes ≡ Some m → IsNeverStuck (repo_of m)
-never-stuck sound never bytes m short e = let read = sound bytes m short e in never (repo_of m) read.form read.types
+pub never-stuck : SecondFormNeverSticks → (r : Linked) (m : Main) → IsMainOf r m → IsNeverStuck (repo_of m)
+never-stuck never r m h = subst IsNeverStuck h.is (never r h.form h.types)
 
 pub not-stuck : (m : Main) (steps : ℕ) (asserted : Bool) (x : Ending) → IsNeverStuck (repo_of m)
     → run (repo_of m) (codes "main") [] steps asserted ≡ record { outcome = outcome_of m.locals x; output = [] } → x ≢ endings.Stuck
@@ -153,49 +201,101 @@ obeyed c left rest before now bytes Uncaught out line h e w f a = record { ended
 obeyed c left rest before now bytes StepsSpent out line h e w f a = record { ended = e; within = w; found = all-told left rest bytes (λ b. Answers c b StepsSpent out line) h e a; faults = f }
 obeyed c left rest before now bytes AssertFalse out line h e w f a = record { ended = e; within = w; found = all-told left rest bytes (λ b. Answers c b AssertFalse out line) h e a; faults = f }
 obeyed c left rest before now bytes Usage out line h e w f a = absurd a
+obeyed c left rest before now bytes BadText out line h e w f a =
+    (a.0, record { ended = e; within = w; found = all-told left rest bytes (λ b. FirstFault b a.0) h e a.1; faults = f }, a.2)
+obeyed c left rest before now bytes BadLink out line h e w f a =
+    (a.0, record { ended = e; within = w; found = all-told left rest bytes (λ b. LinksWithFault b a.0) h e a.1; faults = f }, a.2)
 obeyed c left rest before now bytes TooLong out line h e w f a = absurd a
 obeyed c left rest before now bytes NoMemory out line h e w f a = (f, a)
-obeyed c left rest before now bytes NotYet out line h e w f a = (record { ended = e; within = w; found = all-told left rest bytes IsOtherText h e a.0; faults = f }, a.1)
+obeyed c left rest before now bytes NotYet out line h e w f a = (record { ended = e; within = w; found = all-told left rest bytes (IsOtherText c) h e a.0; faults = f }, a.1)
 obeyed c left rest before now bytes ReadFault out line h e w f a = absurd a
 obeyed c left rest before now bytes WriteFault out line h e w f a = absurd a
 
 both : (left : Option (List ℕ)) (bytes : List ℕ) (P : List ℕ → Type 0) → left ≡ Some bytes → IfSome left P → P bytes
 both left bytes P e h = rw e at h
 
--- a text of the form is no longer than a command takes
-form-within : (c : Command) → limit ≤ limit_of c
-form-within Analyze = omega arith
-form-within (Run steps asserted) = omega arith
+-- there is no memory, or a stream has a fault
+wants-as : (c : Command) (bytes : List ℕ) (s : Status) → (s ≡ NoMemory) ⊎ ((s ≡ ReadFault) ⊎ (s ≡ WriteFault)) → Expects c bytes s
+wants-as c bytes s h = record { bad_text = λ t. inr h; bad_link = λ t. inr h; not_yet = λ t. inr h; done = λ repo w. inr h }
 
-expected : (c : Command) (bytes : List ℕ) (repo : Linked) (s : Status) (out line : List ℕ) → Answers c bytes s out line → IsReadText bytes repo → IsExpected c repo s
-expected Analyze bytes repo s out line h w = h.0
-expected (Run steps asserted) bytes repo s out line h w =
-    subst (λ (r : Linked). HasStatus (ran r steps asserted).outcome s) (sym (h.only repo w)) h.status
+no-form : (bytes : List ℕ) (r repo : Linked) → r ≡ repo → (IsSecondForm r → Types r → ⊥) → IsReadText bytes repo → ⊥
+no-form bytes r repo e u w = subst (λ (x : Linked). IsSecondForm x → Types x → ⊥) e u w.form w.types
 
--- the status of a text of the form
-accepted : (c : Command) (left rest : Option (List ℕ)) (before now : ℕ) (s : Status) (out line : List ℕ) → Obeys c left rest before now s out line
-    → (bytes : List ℕ) (repo : Linked) → left ≡ Some bytes → IsReadText bytes repo
-    → IsExpected c repo s ⊎ ((s ≡ NoMemory) ⊎ ((s ≡ ReadFault) ⊎ (s ≡ WriteFault)))
-accepted c left rest before now Done out line a bytes repo e f = inl (expected c bytes repo Done out line (both left bytes (λ b. Answers c b Done out line) e a.found) f)
-accepted c left rest before now Uncaught out line a bytes repo e f =
-    inl (expected c bytes repo Uncaught out line (both left bytes (λ b. Answers c b Uncaught out line) e a.found) f)
-accepted c left rest before now StepsSpent out line a bytes repo e f =
-    inl (expected c bytes repo StepsSpent out line (both left bytes (λ b. Answers c b StepsSpent out line) e a.found) f)
-accepted c left rest before now AssertFalse out line a bytes repo e f =
-    inl (expected c bytes repo AssertFalse out line (both left bytes (λ b. Answers c b AssertFalse out line) e a.found) f)
-accepted c left rest before now Usage out line a bytes repo e f = absurd a
-accepted c left rest before now TooLong out line a bytes repo e f =
-    let longer : limit_of c < length bytes = both left bytes (λ b. limit_of c < length b) e a.0 in
-    let form : limit ≤ limit_of c = form-within c in
-    absurd (omega (arith, longer, form, f.short))
-accepted c left rest before now NoMemory out line a bytes repo e f = inr (inl refl)
-accepted c left rest before now NotYet out line a bytes repo e f = absurd (both left bytes IsOtherText e a.0.found repo f)
-accepted c left rest before now ReadFault out line a bytes repo e f = inr (inr (inl refl))
-accepted c left rest before now WriteFault out line a bytes repo e f = absurd a
+-- a text that is what an answer says of it has the status of the answer, and no other
+module _ (one : SpellsOne) (spelled : SpelledIsFaultless) (c : Command) (bytes : List ℕ) where
+  ends-as : (repo : Linked) (s : Status) (out line : List ℕ) → (d : Command) → Answers d bytes s out line → IsReadText bytes repo → IsExpected d repo s
+  ends-as repo s out line Check h w = absurd h
+  ends-as repo s out line Analyze h w = h.0
+  ends-as repo s out line (Run steps asserted) h w =
+      subst (λ (r : Linked). HasStatus (ran r steps asserted).outcome s) (sym (h.only repo w)) h.status
 
-pub accepted-answer : (words : List (List ℕ)) (left rest : Option (List ℕ)) (before now : ℕ) (s : Status) (out line : List ℕ) → IsAnswer words left rest before now s out line → Accepts words left s
-accepted-answer words left rest before now s out line a c bytes repo w =
-    accepted c left rest before now s out line (subst (λ (o : Option Command). OfCommand o left rest before now s out line) w a) bytes repo
+  -- what was gone on with is of the form
+  form-of : (d : Command) (s : Status) (out line : List ℕ) → Answers d bytes s out line → (r : Linked) × IsReadText bytes r × (IsUnserved d r → ⊥)
+  form-of Check s out line h = absurd h
+  form-of Analyze s out line h = (h.1.repo, h.1.read, λ u. u h.1.read.form h.1.read.types)
+  form-of (Run steps asserted) s out line h = (h.repo, h.read, λ u. u h.read.form h.read.types)
+
+  left-alone : (d : Command) (r other : Linked) → (IsUnserved d r → ⊥) → ReadsRepository bytes r → ReadsRepository bytes other → IsUnserved d other → ⊥
+  left-alone d r other kept a b u = kept (subst (λ (x : Linked). IsUnserved d x) (one-repository one bytes other r b a) u)
+
+  goes-on-as : (s : Status) (out line : List ℕ) → Answers c bytes s out line → Expects c bytes s
+  goes-on-as s out line h =
+      let f = form-of c s out line h in record {
+        bad_text = λ t. absurd (read-or-not spelled bytes f.0 t.0 f.1.reads t.1);
+        bad_link = λ t. absurd (links-or-not one bytes f.0 t.0 f.1.reads t.1);
+        not_yet = λ t. absurd (left-alone c f.0 t.repo f.2 f.1.reads t.reads t.unserved);
+        done = λ repo w. inl (ends-as repo s out line c h w);
+      }
+
+  text-fault-as : (at : ℕ) → FirstFault bytes at → Expects c bytes BadText
+  text-fault-as at h = record {
+    bad_text = λ t. inl refl;
+    bad_link = λ t. absurd (linked-or-not spelled bytes t.0 at t.1 h);
+    not_yet = λ t. absurd (read-or-not spelled bytes t.repo at t.reads h);
+    done = λ repo w. absurd (read-or-not spelled bytes repo at w.reads h);
+  }
+
+  link-fault-as : (f : LinkFault) → LinksWithFault bytes f → Expects c bytes BadLink
+  link-fault-as f h = record {
+    bad_text = λ t. absurd (linked-or-not spelled bytes f t.0 h t.1);
+    bad_link = λ t. inl refl;
+    not_yet = λ t. absurd (links-or-not one bytes t.repo f t.reads h);
+    done = λ repo w. absurd (links-or-not one bytes repo f w.reads h);
+  }
+
+  unserved-as : (d : Command) (r repo : Linked) → ReadsRepository bytes r → IsUnserved d r → IsReadText bytes repo → IsExpected d repo NotYet
+  unserved-as Check r repo a u w = refl
+  unserved-as Analyze r repo a u w = absurd (no-form bytes r repo (one-repository one bytes r repo a w.reads) u w)
+  unserved-as (Run steps asserted) r repo a u w = absurd (no-form bytes r repo (one-repository one bytes r repo a w.reads) u w)
+
+  other-as : IsOtherText c bytes → Expects c bytes NotYet
+  other-as h = record {
+    bad_text = λ t. absurd (read-or-not spelled bytes h.repo t.0 h.reads t.1);
+    bad_link = λ t. absurd (links-or-not one bytes h.repo t.0 h.reads t.1);
+    not_yet = λ t. inl refl;
+    done = λ repo w. inl (unserved-as c h.repo repo h.reads h.unserved w);
+  }
+
+  accepted : (left rest : Option (List ℕ)) (before now : ℕ) (s : Status) (out line : List ℕ) → Obeys c left rest before now s out line
+      → left ≡ Some bytes → length bytes ≤ limit_of c → Expects c bytes s
+  accepted left rest before now Done out line a e l = goes-on-as Done out line (both left bytes (λ b. Answers c b Done out line) e a.found)
+  accepted left rest before now Uncaught out line a e l = goes-on-as Uncaught out line (both left bytes (λ b. Answers c b Uncaught out line) e a.found)
+  accepted left rest before now StepsSpent out line a e l = goes-on-as StepsSpent out line (both left bytes (λ b. Answers c b StepsSpent out line) e a.found)
+  accepted left rest before now AssertFalse out line a e l = goes-on-as AssertFalse out line (both left bytes (λ b. Answers c b AssertFalse out line) e a.found)
+  accepted left rest before now Usage out line a e l = absurd a
+  accepted left rest before now BadText out line a e l = text-fault-as a.0 (both left bytes (λ b. FirstFault b a.0) e a.1.found)
+  accepted left rest before now BadLink out line a e l = link-fault-as a.0 (both left bytes (λ b. LinksWithFault b a.0) e a.1.found)
+  accepted left rest before now TooLong out line a e l =
+      let longer : limit_of c < length bytes = both left bytes (λ b. limit_of c < length b) e a.0 in absurd (omega (arith, longer, l))
+  accepted left rest before now NoMemory out line a e l = wants-as c bytes NoMemory (inl refl)
+  accepted left rest before now NotYet out line a e l = other-as (both left bytes (IsOtherText c) e a.0.found)
+  accepted left rest before now ReadFault out line a e l = wants-as c bytes ReadFault (inr (inl refl))
+  accepted left rest before now WriteFault out line a e l = absurd a
+
+pub accepted-answer : SpellsOne → SpelledIsFaultless → (words : List (List ℕ)) (left rest : Option (List ℕ)) (before now : ℕ) (s : Status) (out line : List ℕ)
+    → IsAnswer words left rest before now s out line → Accepts words left s
+accepted-answer one spelled words left rest before now s out line a c bytes w e l =
+    accepted one spelled c bytes left rest before now s out line (subst (λ (o : Option Command). OfCommand o left rest before now s out line) w a) e l
 
 delivered-as : (words : List (List ℕ)) (left : Option (List ℕ)) (s t : Status) → s ≡ t → Accepts words left t → Accepts words left s
 delivered-as words left s t e a = subst (Accepts words left) (sym e) a
@@ -207,8 +307,10 @@ accepted-delivered words left Uncaught t h a = delivered-as words left Uncaught 
 accepted-delivered words left StepsSpent t h a = delivered-as words left StepsSpent t (h (λ e. cc)) a
 accepted-delivered words left AssertFalse t h a = delivered-as words left AssertFalse t (h (λ e. cc)) a
 accepted-delivered words left Usage t h a = delivered-as words left Usage t (h (λ e. cc)) a
+accepted-delivered words left BadText t h a = delivered-as words left BadText t (h (λ e. cc)) a
+accepted-delivered words left BadLink t h a = delivered-as words left BadLink t (h (λ e. cc)) a
 accepted-delivered words left TooLong t h a = delivered-as words left TooLong t (h (λ e. cc)) a
 accepted-delivered words left NoMemory t h a = delivered-as words left NoMemory t (h (λ e. cc)) a
 accepted-delivered words left NotYet t h a = delivered-as words left NotYet t (h (λ e. cc)) a
 accepted-delivered words left ReadFault t h a = delivered-as words left ReadFault t (h (λ e. cc)) a
-accepted-delivered words left WriteFault t h a = λ c bytes repo w e f. inr (inr (inr refl))
+accepted-delivered words left WriteFault t h a = λ c bytes w e l. wants-as c bytes WriteFault (inr (inr refl))

@@ -1,20 +1,29 @@
 -- What each status says, and when it comes.
-use Rattle.std.specs.Prelude.{◌≡◌, ◌⊎◌, ℕ, Bool, List, [], Option, Some, None, Result, Ok, Err, IfSome, codes}
+use Rattle.std.specs.Prelude.{◌≡◌, ◌⊎◌, ◌≤◌, ℕ, Bool, List, [], Option, Some, None, Result, Ok, Err, IfSome, length, codes}
 use Rattle.std.specs.Io.KnownBytes.{IsAtEnd}
+use Rattle.hack_values.specs.declared.memory.NoMemory.{NoMemory as Want}
 use Rattle.hh_io.specs.Counts.{Rose}
 use Rattle.hh_io.specs.Sources.{IsLonger, IsWithin}
 use Rattle.hh_io.specs.Sinks.{Takes, TakesPart}
+use Rattle.hhbc_repo.specs.declared.link_fault.LinkFault.{LinkFault}
 use Rattle.hhbc_repo.specs.Linked.{Linked}
+use Rattle.hhbc_repo.specs.Form.{IsSecondForm}
+use Rattle.hhbc_repo.specs.Shapes.{Types}
+use Rattle.hhbc_repo.specs.TextSyntax.{FirstFault}
 use Rattle.hhbc_repo.specs.Text.{text}
 use Rattle.hhbc_repo.specs.Run.{Result as Ran, run}
 use Rattle.hhbc_repo.specs.Truth.{IsFaithful}
+use Rattle.hhas_read.specs.LinkedTexts.{LinksWithFault, ReadsRepository}
 use Rattle.func_analyze.specs.Annotated.{IsAnnotated}
 use Rattle.hhbbc_top.specs.declared.status.Status.{Status}
-use Rattle.hhbbc_top.specs.declared.status.Status.TheVariants.{Done, Uncaught, StepsSpent, AssertFalse, Usage, TooLong, NoMemory, NotYet, ReadFault, WriteFault}
+use Rattle.hhbbc_top.specs.declared.status.Status.TheVariants.{Done, Uncaught, StepsSpent, AssertFalse, Usage, BadText, BadLink, TooLong, NoMemory, NotYet, ReadFault, WriteFault}
+use Rattle.hhbbc_top.specs.declared.form.Unfit.{Unfit}
+use Rattle.hhbbc_top.specs.declared.form.Unfit.TheVariants as unfits
 use Rattle.hhbbc_top.specs.declared.words.Command.{Command}
-use Rattle.hhbbc_top.specs.declared.words.Command.TheVariants.{Analyze, Run}
+use Rattle.hhbbc_top.specs.declared.words.Command.TheVariants.{Check, Analyze, Run}
 use Rattle.hhbbc_top.specs.declared.top.Answer.{Answer}
 use Rattle.hhbbc_top.specs.declared.top.Answer.TheVariants as answers
+use Rattle.hhbbc_top.specs.FaultLines.{bad_text, bad_link}
 use Rattle.hhbbc_top.specs.ReadText.{IsReadText}
 use Rattle.hhbbc_top.specs.Report.{run_line, HasStatus}
 use Rattle.hhbbc_top.specs.Words.{command_of}
@@ -26,19 +35,23 @@ number_of Uncaught = 1
 number_of StepsSpent = 3
 number_of AssertFalse = 4
 number_of Usage = 64
+number_of BadText = 65
+number_of BadLink = 66
 number_of TooLong = 69
 number_of NoMemory = 70
 number_of NotYet = 72
 number_of ReadFault = 74
 number_of WriteFault = 75
 
--- the line to standard error of a status that no run ends with
+-- the line to standard error of a status whose line is always the same
 abbrev pub line_of : Status → List ℕ
 line_of Done = []
 line_of Uncaught = []
 line_of StepsSpent = []
 line_of AssertFalse = []
 line_of Usage = codes "usage\n"
+line_of BadText = []
+line_of BadLink = []
 line_of TooLong = codes "too long\n"
 line_of NoMemory = codes "no memory\n"
 line_of NotYet = codes "not yet\n"
@@ -47,6 +60,7 @@ line_of WriteFault = []
 
 -- the longest text that a command takes
 abbrev pub limit_of : Command → ℕ
+limit_of Check = 134217728
 limit_of Analyze = 16777216
 limit_of (Run steps asserted) = 134217728
 
@@ -85,14 +99,23 @@ pub record IsRunText (bytes : List ℕ) (steps : ℕ) (asserted : Bool) (s : Sta
   pub output : out ≡ (ran repo steps asserted).output
   pub line : told ≡ run_line repo (ran repo steps asserted).outcome
 
--- what a command answers to a text
+-- what a command answers to a text whose repository it goes on with; a check doesn't yet
 abbrev pub Answers : Command → List ℕ → Status → List ℕ → List ℕ → Type 0
+Answers Check bytes s out line = ⊥
 Answers Analyze bytes s out line = (s ≡ Done) × IsAnnotatedText bytes out × (line ≡ [])
 Answers (Run steps asserted) bytes s out line = IsRunText bytes steps asserted s out line
 
--- it isn't of that form
-abbrev pub IsOtherText : List ℕ → Type 0
-IsOtherText bytes = (r : Linked) → IsReadText bytes r → ⊥
+-- a repository that a command does no more with yet
+abbrev pub IsUnserved : Command → Linked → Type 0
+IsUnserved Check r = Unit {0}
+IsUnserved Analyze r = IsSecondForm r → Types r → ⊥
+IsUnserved (Run steps asserted) r = IsSecondForm r → Types r → ⊥
+
+-- the text links to such a repository
+pub record IsOtherText (c : Command) (bytes : List ℕ) : Type 0 where
+  pub repo : Linked
+  pub reads : ReadsRepository bytes repo
+  pub unserved : IsUnserved c repo
 
 -- a command went through all that the source had left, and P says what it found there
 pub record Ends (c : Command) (left rest : Option (List ℕ)) (before now : ℕ) (P : List ℕ → Type 0) : Type 0 where
@@ -105,6 +128,13 @@ pub record Ends (c : Command) (left rest : Option (List ℕ)) (before now : ℕ)
 abbrev pub Says : Status → List ℕ → List ℕ → Type 0
 Says s out line = (out ≡ []) × (line ≡ line_of s)
 
+-- the same, and the line tells the place of a fault of the text, or a fault of linking
+abbrev pub SaysPlace : ℕ → List ℕ → List ℕ → Type 0
+SaysPlace at out line = (out ≡ []) × (line ≡ bad_text at)
+
+abbrev pub SaysFault : LinkFault → List ℕ → List ℕ → Type 0
+SaysFault f out line = (out ≡ []) × (line ≡ bad_link f)
+
 -- when a status comes of a command, and what is to be written to standard output and standard error: from what the source had
 -- left and has left now, and its count of faults before and now. Memory may be wanting wherever a text is read.
 abbrev pub Obeys : Command → Option (List ℕ) → Option (List ℕ) → ℕ → ℕ → Status → List ℕ → List ℕ → Type 0
@@ -113,9 +143,11 @@ Obeys c left rest before now Uncaught out line = Ends c left rest before now (λ
 Obeys c left rest before now StepsSpent out line = Ends c left rest before now (λ bytes. Answers c bytes StepsSpent out line)
 Obeys c left rest before now AssertFalse out line = Ends c left rest before now (λ bytes. Answers c bytes AssertFalse out line)
 Obeys c left rest before now Usage out line = ⊥
+Obeys c left rest before now BadText out line = (at : ℕ) × Ends c left rest before now (λ bytes. FirstFault bytes at) × SaysPlace at out line
+Obeys c left rest before now BadLink out line = (f : LinkFault) × Ends c left rest before now (λ bytes. LinksWithFault bytes f) × SaysFault f out line
 Obeys c left rest before now TooLong out line = IsLonger left (limit_of c) × (now ≡ before) × Says TooLong out line
 Obeys c left rest before now NoMemory out line = (now ≡ before) × Says NoMemory out line
-Obeys c left rest before now NotYet out line = Ends c left rest before now IsOtherText × Says NotYet out line
+Obeys c left rest before now NotYet out line = Ends c left rest before now (IsOtherText c) × Says NotYet out line
 Obeys c left rest before now ReadFault out line = Rose before now × Says ReadFault out line
 Obeys c left rest before now WriteFault out line = ⊥
 
@@ -152,6 +184,16 @@ abbrev pub line_to : Result Answer Status → List ℕ
 line_to (Ok a) = line_of_answer a
 line_to (Err s) = line_of s
 
+-- a status with a line of its own, where there is memory for the line
+abbrev pub told : Status → Result (List ℕ) Want → Result Answer Status
+told s (Ok line) = Ok (answers.Line s line)
+told s (Err _) = Err NoMemory
+
+-- the status of a repository that isn't gone on with
+abbrev pub status_of_unfit : Unfit → Status
+status_of_unfit unfits.OtherForm = NotYet
+status_of_unfit unfits.NoMemory = NoMemory
+
 -- a part of what was to be written was taken: of standard output and nothing else, or all of it and a part of the line
 abbrev pub WritesPart : Option (List ℕ) → Option (List ℕ) → Option (List ℕ) → Option (List ℕ) → List ℕ → List ℕ → Type 0
 WritesPart out out_now err err_now bytes line =
@@ -167,13 +209,34 @@ abbrev pub WritesAll : (Status → List ℕ → List ℕ → Type 0) → Status 
 WritesAll Answer s out out_now err err_now =
     (bytes : List ℕ) × (line : List ℕ) × Answer s bytes line × Takes out out_now bytes × Takes err err_now line
 
+-- which texts have a status, by the command of the words
+abbrev pub HasTextFault : List ℕ → Type 0
+HasTextFault bytes = (at : ℕ) × FirstFault bytes at
+
+abbrev pub HasLinkFault : List ℕ → Type 0
+HasLinkFault bytes = (f : LinkFault) × LinksWithFault bytes f
+
+abbrev pub IsUnservedText : Option Command → List ℕ → Type 0
+IsUnservedText None bytes = ⊥
+IsUnservedText (Some c) bytes = IsOtherText c bytes
+
 -- the status that a text of the form has
 abbrev pub IsExpected : Command → Linked → Status → Type 0
+IsExpected Check repo s = s ≡ NotYet
 IsExpected Analyze repo s = s ≡ Done
 IsExpected (Run steps asserted) repo s = HasStatus (ran repo steps asserted).outcome s
 
--- a text of the form that is read has it, memory and stream faults aside
+-- so it is, memory and stream faults aside
+abbrev pub IsOrWants : Type 0 → Status → Type 0
+IsOrWants P s = P ⊎ ((s ≡ NoMemory) ⊎ ((s ≡ ReadFault) ⊎ (s ≡ WriteFault)))
+
+-- each text that a command takes has the status that is its own
+pub record Expects (c : Command) (bytes : List ℕ) (s : Status) : Type 0 where
+  pub bad_text : HasTextFault bytes → IsOrWants (s ≡ BadText) s
+  pub bad_link : HasLinkFault bytes → IsOrWants (s ≡ BadLink) s
+  pub not_yet : IsOtherText c bytes → IsOrWants (s ≡ NotYet) s
+  pub done : (repo : Linked) → IsReadText bytes repo → IsOrWants (IsExpected c repo s) s
+
 abbrev pub Accepts : List (List ℕ) → Option (List ℕ) → Status → Type 0
 Accepts words left s =
-    (c : Command) (bytes : List ℕ) (repo : Linked) → command_of words ≡ Some c → left ≡ Some bytes → IsReadText bytes repo
-    → IsExpected c repo s ⊎ ((s ≡ NoMemory) ⊎ ((s ≡ ReadFault) ⊎ (s ≡ WriteFault)))
+    (c : Command) (bytes : List ℕ) → command_of words ≡ Some c → left ≡ Some bytes → length bytes ≤ limit_of c → Expects c bytes s

@@ -1,17 +1,23 @@
--- What a command makes of a text that was read.
+-- What a command makes of a text, and of its repository.
 use Rattle.std.specs.Prelude.{◌≡◌, ℕ, List, [], Result, Ok, Err}
+use Rattle.hhas_read.specs.LinkedTexts.{LinksWithFault}
+use Rattle.hhbc_repo.specs.declared.link_fault.LinkFault.{LinkFault}
+use Rattle.hhbc_repo.specs.Linked.{Linked}
+use Rattle.hhbc_repo.specs.TextSyntax.{FirstFault}
 use Rattle.hhbbc_top.specs.declared.form.Main.{Main}
 use Rattle.hhbbc_top.specs.declared.status.Status.{Status}
-use Rattle.hhbbc_top.specs.declared.status.Status.TheVariants.{Done, Uncaught, StepsSpent, AssertFalse, Usage, TooLong, NoMemory, NotYet, ReadFault, WriteFault}
+use Rattle.hhbbc_top.specs.declared.status.Status.TheVariants.{Done, Uncaught, StepsSpent, AssertFalse, Usage, BadText, BadLink, TooLong, NoMemory, NotYet, ReadFault, WriteFault}
 use Rattle.hhbbc_top.specs.declared.top.Answer.{Answer}
 use Rattle.hhbbc_top.specs.declared.words.Command.{Command}
-use Rattle.hhbbc_top.specs.declared.words.Command.TheVariants.{Analyze, Run}
-use Rattle.hhbbc_top.specs.Answer.{Answers, IsOtherText, Says, ran, status_of_answer, out_of_answer, line_of_answer}
+use Rattle.hhbbc_top.specs.declared.words.Command.TheVariants.{Check, Analyze, Run}
+use Rattle.hhbbc_top.specs.Answer.{Answers, IsUnserved, IsOtherText, Says, SaysPlace, SaysFault, ran, status_of_answer, out_of_answer, line_of_answer}
 use Rattle.hhbbc_top.specs.Forms.{annotated_text, repo_of}
+use Rattle.hhbbc_top.specs.Mains.{IsMainOf}
 use Rattle.hhbbc_top.specs.Report.{run_line, HasStatus}
 
--- of the function that was read
+-- of the function that is all of a repository
 abbrev pub Makes : Command → Main → Status → List ℕ → List ℕ → Type 0
+Makes Check m s out line = ⊥
 Makes Analyze m s out line = (s ≡ Done) × (out ≡ annotated_text m) × (line ≡ [])
 Makes (Run steps asserted) m s out line =
     HasStatus (ran (repo_of m) steps asserted).outcome s
@@ -22,14 +28,31 @@ abbrev pub Does : Command → Main → Result Answer Status → Type 0
 Does c m (Ok a) = Makes c m (status_of_answer a) (out_of_answer a) (line_of_answer a)
 Does c m (Err s) = s ≡ NoMemory
 
+-- of a repository: there is no memory, or it does no more with it, or it goes on with the function that is all of it
+pub record Goes (c : Command) (r : Linked) (a : Answer) : Type 0 where
+  pub main : Main
+  pub is : IsMainOf r main
+  pub makes : Makes c main (status_of_answer a) (out_of_answer a) (line_of_answer a)
+
+abbrev pub Stops : Command → Linked → Status → Type 0
+Stops c r NoMemory = Unit {0}
+Stops c r NotYet = IsUnserved c r
+Stops c r _ = ⊥
+
+abbrev pub Serves : Command → Linked → Result Answer Status → Type 0
+Serves c r (Ok a) = Goes c r a
+Serves c r (Err s) = Stops c r s
+
 -- of the bytes that were read
 abbrev pub AnswersTo : Command → List ℕ → Status → List ℕ → List ℕ → Type 0
 AnswersTo c bytes Done out line = Answers c bytes Done out line
 AnswersTo c bytes Uncaught out line = Answers c bytes Uncaught out line
 AnswersTo c bytes StepsSpent out line = Answers c bytes StepsSpent out line
 AnswersTo c bytes AssertFalse out line = Answers c bytes AssertFalse out line
+AnswersTo c bytes BadText out line = (at : ℕ) × FirstFault bytes at × SaysPlace at out line
+AnswersTo c bytes BadLink out line = (f : LinkFault) × LinksWithFault bytes f × SaysFault f out line
 AnswersTo c bytes NoMemory out line = Says NoMemory out line
-AnswersTo c bytes NotYet out line = IsOtherText bytes × Says NotYet out line
+AnswersTo c bytes NotYet out line = IsOtherText c bytes × Says NotYet out line
 AnswersTo c bytes Usage out line = ⊥
 AnswersTo c bytes TooLong out line = ⊥
 AnswersTo c bytes ReadFault out line = ⊥

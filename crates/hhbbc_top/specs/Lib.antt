@@ -1,9 +1,9 @@
 pub mod Answer
 pub mod ReadText
 pub mod Forms
-pub mod Pieces
-pub mod Reading
 pub mod Running
 pub mod Words
 pub mod Report
 pub mod Commands
+pub mod FaultLines
+pub mod Mains

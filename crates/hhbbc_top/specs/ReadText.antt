@@ -1,38 +1,22 @@
--- Texts of the form that is read.
-use Rattle.std.specs.Prelude.{◌≡◌, ◌≤◌, ℕ, false, List, Some, length}
-use Rattle.hhas_lex.specs.Tokens.{tokens}
-use Rattle.hhbc_repo.specs.declared.parts.BodyParts.{BodyParts}
+-- Texts by what they spell: a repository, and one of the form that is annotated and run.
+use Rattle.std.specs.Prelude.{◌≡◌, ℕ, List}
+use Rattle.hhbc_repo.specs.declared.parts.Parts.{Parts}
 use Rattle.hhbc_repo.specs.Linked.{Linked}
-use Rattle.hhbc_repo.specs.Grammar.{AText}
-use Rattle.hhbc_repo.specs.Linking.{Links}
 use Rattle.hhbc_repo.specs.Form.{IsSecondForm}
 use Rattle.hhbc_repo.specs.Shapes.{Types}
-use Rattle.func_analyze.specs.Laws.{AreWords}
-use Rattle.hhbbc_top.specs.declared.form.Main.{Main}
-use Rattle.hhbbc_top.specs.Reading.{has_comment, main_of}
-use Rattle.hhbbc_top.specs.Forms.{repo_of}
+use Rattle.hhbc_repo.specs.TextSyntax.{FirstFault, Spells}
+use Rattle.hhas_read.specs.LinkedTexts.{ReadsRepository}
 
--- the longest text that is read
-abbrev pub limit : ℕ
-limit = 16777216
-
--- a text without comments that is in the grammar, links to the repository, and types; the repository is of the second form
+-- the repository of the text is of the second form and keeps to its shapes
 pub record IsReadText (bytes : List ℕ) (r : Linked) : Type 0 where
-  pub short : length bytes ≤ limit
-  pub uncommented : has_comment bytes ≡ false
-  pub parts : List BodyParts
-  pub spells : AText (tokens bytes) parts
-  pub links : Links parts r
+  pub reads : ReadsRepository bytes r
   pub form : IsSecondForm r
   pub types : Types r
 
--- what is read of a text is what the grammar, linking and the layout rule say of it
-abbrev pub ReadingIsSound : Type 0
-ReadingIsSound = (bytes : List ℕ) (m : Main) → length bytes ≤ limit → main_of bytes ≡ Some m → IsReadText bytes (repo_of m)
+-- a text spells one list of parts at most
+abbrev pub SpellsOne : Type 0
+SpellsOne = (bytes : List ℕ) (r s : Parts) → Spells bytes r → Spells bytes s → r ≡ s
 
-abbrev pub ReadingIsComplete : Type 0
-ReadingIsComplete = (bytes : List ℕ) (r : Linked) → IsReadText bytes r → (m : Main) × (main_of bytes ≡ Some m) × (r ≡ repo_of m)
-
--- its ints are of 64 bits
-abbrev pub ReadTextHasWords : Type 0
-ReadTextHasWords = (bytes : List ℕ) (r : Linked) (t : IsReadText bytes r) → AreWords t.form.body.positions
+-- a text that spells parts has no fault
+abbrev pub SpelledIsFaultless : Type 0
+SpelledIsFaultless = (bytes : List ℕ) (r : Parts) (at : ℕ) → Spells bytes r → FirstFault bytes at → ⊥

@@ -4,7 +4,7 @@ use Rattle.std.specs.List.{list_all}
 use Rattle.std.specs.Cmp.Lexicographic.{pointwise}
 use Rattle.hhas_lex.specs.Bytes.{is_between, is_digit, number_from}
 use Rattle.hhbbc_top.specs.declared.words.Command.{Command}
-use Rattle.hhbbc_top.specs.declared.words.Command.TheVariants.{Analyze, Run}
+use Rattle.hhbbc_top.specs.declared.words.Command.TheVariants.{Check, Analyze, Run}
 
 -- digits, the first of which isn't 0
 abbrev pub is_numeral : List ℕ → Bool
@@ -38,14 +38,16 @@ options_in [] = asserts_in default_steps []
 options_in (word ∷ []) = asserts_in default_steps (word ∷ [])
 options_in (word ∷ next ∷ more) = if pointwise nat_eq word (codes "--steps") then with_steps (steps_of next) more else None
 
-abbrev pub alone : List (List ℕ) → Option Command
-alone [] = Some Analyze
-alone (word ∷ more) = None
+-- no further words
+abbrev pub alone : Command → List (List ℕ) → Option Command
+alone c [] = Some c
+alone c (word ∷ more) = None
 
 -- the command of the words, where they are those of one
 abbrev pub command_of : List (List ℕ) → Option Command
 command_of [] = None
 command_of (word ∷ more) =
-    if pointwise nat_eq word (codes "analyze") then alone more
+    if pointwise nat_eq word (codes "analyze") then alone Analyze more
+    else if pointwise nat_eq word (codes "check") then alone Check more
     else if pointwise nat_eq word (codes "run") then options_in more
     else None

@@ -1,18 +1,23 @@
-//! Reads a text: one function `main` without parameters, of constants, locals and one `RetC` at its end, with claims of plain types.
+//! The one function of a repository of the form that is annotated and run: `main`, without parameters, of constants, locals and one `RetC` at its end, with claims of plain types.
 
-ghost use Rattle.std.specs.Prelude.{◌≡◌, ◌≤◌, ◌<◌, ◌^◌, [], ◌==◌, length, IfSome, IfOk};
+ghost use Rattle.std.specs.Prelude.{◌≡◌, ◌≢◌, ◌↔◌, ◌<◌, ℕ, ℤ, true, [], ◌∷◌, All, Err, IfOk, IsTrue, MatchOption, Some, codes, length, map};
+ghost use Rattle.hhbc_repo.specs.Codes.{pops, pushes};
+ghost use Rattle.hhbc_repo.specs.Form.{IsSecondForm};
+ghost use Rattle.hhbc_repo.specs.Form as forms;
 ghost use Rattle.hhbc_repo.specs.Linking as linking;
-ghost use Rattle.hhbbc_top.specs.ReadText.{ReadTextHasWords, ReadingIsSound, ReadingIsComplete};
-ghost use Rattle.hhbbc_top.specs.Pieces.{Gives, Passes, Reads};
-ghost use Rattle.hhbbc_top.specs.Reading as reading;
+ghost use Rattle.hhbc_repo.specs.PlainTypes as types;
+ghost use Rattle.hhbc_repo.specs.Shapes.{Types, reaches};
+ghost use Rattle.hhbc_repo.specs.Walks.{walks_asserted};
+ghost use Rattle.hhbc_repo.specs.declared.code.Imm.TheVariants as imms;
+ghost use Rattle.type_lattice.specs.Types as lattice;
+ghost use Rattle.hhbbc_top.specs.Forms.{code_of, plain, position_of};
+ghost use Rattle.hhbbc_top.specs.Mains as mains;
 
-use crate::claims::{read_claims, stated};
-use crate::reader::{Piece, ReadFault, Reader};
-use hack_values::{Seq, Text};
-use hhbc_ops::{Op, op_named};
-use hhbc_repo::Assert;
+use hack_values::{NoMemory, Seq, Text};
+use hhbc_ops::Op;
+use hhbc_repo::{Assert, Body, Code, Imm, Position, Repo, types_where_asserted_walks};
 use std::alloc::Global;
-use type_lattice::HType;
+use type_lattice::{HType, IntPart, Leaf, ObjPart, StrPart};
 
 /// A code. Locals are numbers.
 #[derive(Clone, Copy, Debug, PartialEq, Eq)]
@@ -34,7 +39,7 @@ pub struct Line {
     pub step: Step,
 }
 
-/// What the one function of a text states of its result, its locals and its codes.
+/// What the one function of a repository states of its result, its locals and its codes.
 #[derive(Drop)]
 pub struct Main {
     pub stated: Option<HType>,
@@ -42,282 +47,543 @@ pub struct Main {
     pub codes: Seq<Line>,
 }
 
+/// Why a repository has no such function.
+#[derive(Clone, Copy, Debug, PartialEq, Eq)]
+pub enum Unfit {
+    /// The repository isn't of the form.
+    OtherForm,
+    NoMemory,
+}
+
+impl From<NoMemory> for Unfit {
+    ghost use Rattle.std.specs.Prelude.{◌≡◌};
+    ghost use Rattle.hhbbc_top.specs.declared.form.Unfit.TheVariants.{NoMemory as WantOfMemory};
+
+    ghost from_gives = { λ _ e. e ≡ WantOfMemory };
+
+    fn from(_want: NoMemory) -> Unfit {
+        Unfit::NoMemory
+    }
+}
+
 const MAX_LOCALS: usize = 255;
 
 const MAX_CODES: usize = 200;
 
-/// The number of the first local of a name.
-fn place_of(locals: &[Text], name: &[u8]) -> Option<usize>
-    ensures value { result ≡ linking.place_of name.now locals.now }
-    ensures bound { IfSome result (λ place. place < length locals.now) }
+const NULL: HType = HType {
+    null: true,
+    ..HType::NEVER
+};
+
+const FALSE: HType = HType {
+    no: true,
+    ..HType::NEVER
+};
+
+const TRUE: HType = HType {
+    yes: true,
+    ..HType::NEVER
+};
+
+const BOOL: HType = HType {
+    no: true,
+    yes: true,
+    ..HType::NEVER
+};
+
+const INT: HType = HType {
+    int: IntPart::Any,
+    ..HType::NEVER
+};
+
+const STR: HType = HType {
+    str: StrPart::Any,
+    ..HType::NEVER
+};
+
+const BARE_CELL: HType = HType {
+    null: true,
+    no: true,
+    yes: true,
+    int: IntPart::Any,
+    str: StrPart::Any,
+    obj: ObjPart::Any,
+    ..HType::NEVER
+};
+
+fn one_int(number: i64) -> HType
+    ensures { result ≡ types.one_int number }
 {
-    locals.iter().position(|local| local.bytes() == name)
+    HType {
+        int: IntPart::One(number),
+        ..HType::NEVER
+    }
 }
 
-/// Locals behind `.declvars`, through the semicolon.
-fn names(alloc: Global, reader: &mut Reader) -> Result<Seq<Text>, ReadFault>
-    ensures names { Gives (reading.names_from [] reader.old) result reader.new }
-    ensures few { IfOk result (λ locals. length locals ≤ 255) }
+/// Whether the type is of one int alone.
+fn is_one_int(t: &HType) -> bool
+    ensures { IsTrue result ↔ mains.IsOneInt t.now }
 {
-    let mut locals = Seq::new(alloc);
-    for count in 0..MAX_LOCALS {
-        let name = reader.local()?;
-        if place_of(locals.as_slice(), name).is_some() {
-            return Err(ReadFault::OtherForm);
-        }
-        locals.push(Text::from_bytes(alloc, name)?)?;
-        match reader.take() {
-            Piece::Mark(b',') => {}
-            Piece::Mark(b';') => return Ok(locals),
-            _ => return Err(ReadFault::OtherForm),
+    match t.int {
+        IntPart::One(number) => *t == one_int(number),
+        _ => false,
+    }
+}
+
+fn is_never(t: &HType) -> bool
+    ensures { IsTrue result ↔ (t.now ≡ types.type_named types.Never) }
+{
+    *t == HType::NEVER
+}
+
+/// Whether a part of a container is of all cells.
+fn is_cell_leaf(leaf: &Leaf) -> bool
+    ensures { IsTrue result ↔ (leaf.now ≡ lattice.cell_leaf) }
+{
+    *leaf == Leaf::CELL
+}
+
+/// Whether a part of a container is of all keys.
+fn is_key_leaf(leaf: &Leaf) -> bool
+    ensures { IsTrue result ↔ (leaf.now ≡ lattice.key_leaf) }
+{
+    *leaf == Leaf::KEY
+}
+
+fn is_cell_vec(part: &Option<Leaf>) -> bool
+    ensures { IsTrue result ↔ (part.now ≡ Some lattice.cell_leaf) }
+{
+    match part {
+        None => false,
+        Some(items) => is_cell_leaf(items),
+    }
+}
+
+fn is_cell_dict(part: &Option<(Leaf, Leaf)>) -> bool
+    ensures { IsTrue result ↔ (part.now ≡ Some (lattice.key_leaf, lattice.cell_leaf)) }
+{
+    match part {
+        None => false,
+        Some((keys, values)) => is_key_leaf(keys) && is_cell_leaf(values),
+    }
+}
+
+fn is_cell_keyset(part: &Option<Leaf>) -> bool
+    ensures { IsTrue result ↔ (part.now ≡ Some lattice.key_leaf) }
+{
+    match part {
+        None => false,
+        Some(elements) => is_key_leaf(elements),
+    }
+}
+
+/// The type without its containers.
+fn bare(t: &HType) -> HType
+    ensures { result ≡ mains.bare t.now }
+{
+    HType {
+        vec: None,
+        dict: None,
+        keyset: None,
+        ..*t
+    }
+}
+
+/// Whether the type is that of all cells, but for its containers.
+fn is_bare_cell(t: &HType) -> bool
+    ensures { IsTrue result ↔ (mains.bare t.now ≡ mains.bare lattice.cell) }
+{
+    bare(t) == BARE_CELL
+}
+
+fn is_cell(t: &HType) -> bool
+    ensures { IsTrue result ↔ (t.now ≡ types.type_named types.Cell) }
+{
+    is_bare_cell(t) && is_cell_vec(&t.vec) && is_cell_dict(&t.dict) && is_cell_keyset(&t.keyset)
+}
+
+fn is_uninit(t: &HType) -> bool
+    ensures { IsTrue result ↔ (t.now ≡ types.type_named types.Uninit) }
+{
+    *t == HType::UNINIT
+}
+
+fn is_null(t: &HType) -> bool
+    ensures { IsTrue result ↔ (t.now ≡ types.type_named types.Null) }
+{
+    *t == NULL
+}
+
+fn is_false(t: &HType) -> bool
+    ensures { IsTrue result ↔ (t.now ≡ types.type_named types.False) }
+{
+    *t == FALSE
+}
+
+fn is_true(t: &HType) -> bool
+    ensures { IsTrue result ↔ (t.now ≡ types.type_named types.True) }
+{
+    *t == TRUE
+}
+
+fn is_bool(t: &HType) -> bool
+    ensures { IsTrue result ↔ (t.now ≡ types.type_named types.Bool) }
+{
+    *t == BOOL
+}
+
+fn is_int(t: &HType) -> bool
+    ensures { IsTrue result ↔ (t.now ≡ types.type_named types.Int) }
+{
+    *t == INT
+}
+
+fn is_str(t: &HType) -> bool
+    ensures { IsTrue result ↔ (t.now ≡ types.type_named types.Str) }
+{
+    *t == STR
+}
+
+/// Whether the type is one that a word names.
+fn is_named(t: &HType) -> bool
+    ensures { IsTrue result ↔ mains.IsNamed t.now }
+{
+    if is_never(t) {
+        return true;
+    }
+    if is_cell(t) {
+        return true;
+    }
+    if is_uninit(t) {
+        return true;
+    }
+    if is_null(t) {
+        return true;
+    }
+    if is_false(t) {
+        return true;
+    }
+    if is_true(t) {
+        return true;
+    }
+    if is_bool(t) {
+        return true;
+    }
+    if is_int(t) {
+        return true;
+    }
+    is_str(t)
+}
+
+fn is_plain(t: &HType) -> bool
+    ensures { IsTrue result ↔ types.IsPlainType t.now }
+{
+    is_named(t) || is_one_int(t)
+}
+
+fn is_stated(stated: &Option<HType>) -> bool
+    ensures { IsTrue result ↔ forms.FitsStated stated.now }
+{
+    match stated {
+        None => true,
+        Some(t) => is_plain(t),
+    }
+}
+
+/// Whether an assertion is of a plain type, and about a local of the function or a slot that texts can name.
+fn fits(assert: &Assert, locals: usize) -> bool
+    ensures { IsTrue result ↔ forms.FitsAssert locals assert.now }
+{
+    match assert {
+        Assert::Local(local, t) => (*local as usize) < locals && is_plain(t),
+        Assert::Stack(slot, t) => *slot <= 254 && is_plain(t),
+    }
+}
+
+fn all_fit(asserts: &[Assert], locals: usize) -> bool
+    ensures { IsTrue result ↔ forms.FitAsserts locals asserts.now }
+{
+    for assert in asserts {
+        if !fits(assert, locals) {
+            return false;
         }
     }
-    Err(ReadFault::OtherForm)
+    true
 }
 
-/// A declared local, by its number.
-pub fn number(reader: &mut Reader, locals: &[Text]) -> Result<u8, ReadFault>
-    requires { length locals.now ≤ 255 }
-    ensures { Gives (reading.number_in locals.now reader.old) result reader.new }
+/// A code without operands.
+fn alone(operands: &[Imm], step: Step) -> Option<Step>
+    ensures { MatchOption result (operands.now ≢ []) (λ s. (operands.now ≡ []) × (s ≡ step)) }
 {
-    let name = reader.local()?;
-    match place_of(locals, name) {
-        Some(place) => Ok(place as u8),
-        None => Err(ReadFault::OtherForm),
+    if operands.is_empty() {
+        Some(step)
+    } else {
+        None
     }
 }
 
-/// The operands of an instruction.
-fn step_of(reader: &mut Reader, locals: &[Text], op: Op) -> Result<Step, ReadFault>
-    requires { length locals.now ≤ 255 }
-    ensures { Gives (reading.step_of locals.now op reader.old) result reader.new }
+/// The operand, where it is one int.
+fn int_operand(operands: &[Imm]) -> Option<i64>
+    ensures { MatchOption result ((i : ℤ) → operands.now ≢ imms.Int i ∷ []) (λ i. operands.now ≡ imms.Int i ∷ []) }
+{
+    match operands {
+        [Imm::Int(number)] => Some(*number),
+        _ => None,
+    }
+}
+
+/// The operand, where it is one local of so many.
+fn local_operand(operands: &[Imm], locals: usize) -> Option<u8>
+    ensures { MatchOption result ((l : ℕ) → operands.now ≡ imms.Local l ∷ [] → l < locals → ⊥) (λ l. (operands.now ≡ imms.Local l ∷ []) × (l < locals)) }
+{
+    match operands {
+        [Imm::Local(local)] => {
+            if (*local as usize) < locals {
+                Some(*local)
+            } else {
+                None
+            }
+        }
+        _ => None,
+    }
+}
+
+/// An instruction with its operands as a step.
+fn plain_step(op: Op, operands: &[Imm], locals: usize) -> Option<Step>
+    ensures { MatchOption result (forms.FitsOperands locals op operands.now → ⊥) (λ s. mains.IsStep locals (plain op operands.now) s) }
 {
     match op {
-        Op::Null => Ok(Step::Null),
-        Op::True => Ok(Step::True),
-        Op::False => Ok(Step::False),
-        Op::Int => Ok(Step::Int(reader.integer()?)),
-        Op::PopC => Ok(Step::PopC),
-        Op::SetL => Ok(Step::SetL(number(reader, locals)?)),
-        Op::CGetL => Ok(Step::CGetL(number(reader, locals)?)),
-        Op::RetC => Ok(Step::RetC),
-        _ => Err(ReadFault::OtherForm),
+        Op::Null => alone(operands, Step::Null),
+        Op::True => alone(operands, Step::True),
+        Op::False => alone(operands, Step::False),
+        Op::Int => Some(Step::Int(int_operand(operands)?)),
+        Op::PopC => alone(operands, Step::PopC),
+        Op::SetL => Some(Step::SetL(local_operand(operands, locals)?)),
+        Op::CGetL => Some(Step::CGetL(local_operand(operands, locals)?)),
+        Op::RetC => alone(operands, Step::RetC),
+        _ => None,
     }
 }
 
-/// The instruction of a name.
-fn op_of(name: &[u8]) -> Result<Op, ReadFault>
-    ensures { Reads (reading.op_of name.now) result }
+fn step_of(code: &Code, locals: usize) -> Option<Step>
+    ensures { MatchOption result (forms.FitsCode locals code.now → ⊥) (λ s. mains.IsStep locals code.now s) }
 {
-    match op_named(name) {
-        Some(op) => Ok(op),
-        None => Err(ReadFault::OtherForm),
+    match code {
+        Code::Plain(instr) => plain_step(instr.op, instr.imms.as_slice(), locals),
+        Code::Member(_) => None,
     }
 }
 
-/// The code of a name, with the operands behind the name.
-fn read_step(reader: &mut Reader, locals: &[Text], name: &[u8]) -> Result<Step, ReadFault>
-    requires { length locals.now ≤ 255 }
-    ensures { Gives (reading.step_in locals.now name.now reader.old) result reader.new }
+fn copied(alloc: Global, asserts: &[Assert]) -> Result<Seq<Assert>, NoMemory>
+    ensures { IfOk result (λ copies. copies ≡ asserts.now) }
 {
-    let op = op_of(name)?;
-    step_of(reader, locals, op)
-}
-
-/// How many slots are on the stack behind a code; none where it reaches below the stack.
-fn depth_behind(step: Step, depth: usize) -> Option<usize>
-    requires { depth < 2 ^ 32 }
-    ensures { result ≡ reading.depth_behind step depth }
-{
-    match step {
-        Step::Null | Step::True | Step::False | Step::Int(_) | Step::CGetL(_) => Some(depth + 1),
-        Step::PopC | Step::RetC => depth.checked_sub(1),
-        Step::SetL(_) => { if depth > 0 { Some(depth) } else { None } }
+    let mut copies = Seq::new(alloc);
+    for assert in asserts {
+        copies.push(*assert)?;
     }
+    Ok(copies)
 }
 
-/// A code with the assertions before it, none of which reaches below the stack. The first has this word.
-#[tactic(auto, unfolding(crate::specs::Reading::line_in))]
-fn read_line<'a>(
-    alloc: Global,
-    reader: &mut Reader<'a>,
-    locals: &[Text],
-    depth: usize,
-    first: &'a [u8],
-) -> Result<Line, ReadFault>
-    requires { length locals.now ≤ 255 }
-    ensures { Gives (reading.line_in locals.now depth first.now reader.old) result reader.new }
+/// A code with its assertions.
+fn line_of(alloc: Global, position: &Position, locals: usize) -> Result<Line, Unfit>
+    ensures read { IfOk result (λ line. mains.IsLine locals position.now line) }
+    ensures other { result ≡ Err Unfit.OtherForm → forms.FitsClaimed locals position.now → ⊥ }
 {
-    match read_claims(alloc, reader, locals, depth, first) {
-        Ok((asserts, name)) => {
-            let step = read_step(reader, locals, name)?;
-            Ok(Line { asserts, step })
+    if !all_fit(position.asserts.as_slice(), locals) {
+        return Err(Unfit::OtherForm);
+    }
+    let Some(step) = step_of(&position.code, locals) else {
+        return Err(Unfit::OtherForm);
+    };
+    let asserts = copied(alloc, position.asserts.as_slice())?;
+    Ok(Line { asserts, step })
+}
+
+/// All codes with their assertions.
+fn lines_of(alloc: Global, positions: &[Position], locals: usize) -> Result<Seq<Line>, Unfit>
+    ensures read { IfOk result (λ lines. mains.AreLines locals positions.now lines) }
+    ensures other { result ≡ Err Unfit.OtherForm → All (forms.FitsClaimed locals) positions.now → ⊥ }
+{
+    let mut lines = Seq::new(alloc);
+    for position in positions {
+        match line_of(alloc, position, locals) {
+            Ok(line) => lines.push(line)?,
+            Err(unfit) => return Err(unfit),
         }
-        Err(fault) => Err(fault),
     }
-}
-
-/// Codes through `RetC`, none of which reaches below the stack. The first, or its first assertion, has this word.
-fn codes<'a>(
-    alloc: Global,
-    reader: &mut Reader<'a>,
-    locals: &[Text],
-    first: &'a [u8],
-) -> Result<Seq<Line>, ReadFault>
-    requires { length locals.now ≤ 255 }
-    ensures { Gives (reading.codes_from 200 locals.now 0 first.now reader.old) result reader.new }
-{
-    let mut codes = Seq::new(alloc);
-    let mut name = first;
-    let mut depth = 0;
-    for count in 0..MAX_CODES {
-        let line = read_line(alloc, reader, locals, depth, name)?;
-        let step = line.step;
-        let Some(behind) = depth_behind(step, depth) else {
-            return Err(ReadFault::OtherForm);
-        };
-        depth = behind;
-        codes.push(line)?;
-        if is_return(step) {
-            return Ok(codes);
-        }
-        name = reader.word()?;
-    }
-    Err(ReadFault::OtherForm)
+    Ok(lines)
 }
 
 fn is_return(step: Step) -> bool
-    ensures { result ≡ reading.is_return step }
+    ensures { result ≡ mains.is_return step }
 {
     matches!(step, Step::RetC)
 }
 
-/// `.profile 1;`
-fn profile(reader: &mut Reader) -> Result<(), ReadFault>
-    ensures { Passes (reading.profile_in reader.old) result reader.new }
+/// Whether a code that returns stands last, and none before it.
+fn returns_last(lines: &[Line]) -> bool
+    ensures { result ≡ mains.returns_last lines.now }
 {
-    reader.directive(b"profile")?;
-    let number = reader.integer()?;
-    if number == 1 {
-        reader.mark(b';')
-    } else {
-        Err(ReadFault::OtherForm)
+    let mut returned = false;
+    for line in lines {
+        if returned {
+            return false;
+        }
+        returned = is_return(line.step);
+    }
+    returned
+}
+
+/// How many slots a code takes from the stack, and how many it puts there.
+fn slots_of(step: Step) -> (usize, usize)
+    ensures { (result.0 ≡ length (pops (code_of step))) × (result.1 ≡ length (pushes (code_of step))) }
+{
+    match step {
+        Step::Null | Step::True | Step::False | Step::Int(_) | Step::CGetL(_) => (0, 1),
+        Step::PopC | Step::RetC => (1, 0),
+        Step::SetL(_) => (1, 1),
     }
 }
 
-/// `()`
-fn parens(reader: &mut Reader) -> Result<(), ReadFault>
-    ensures { Passes (reading.parens_in reader.old) result reader.new }
+/// Whether each assertion finds its slot, with so many on the stack.
+fn reach(asserts: &[Assert], depth: usize) -> bool
+    ensures { result ≡ reaches asserts.now depth }
 {
-    reader.mark(b'(')?;
-    reader.mark(b')')
-}
-
-/// `.function main()`, what it states of its result, and `{`
-fn heading(reader: &mut Reader) -> Result<Option<HType>, ReadFault>
-    ensures { Gives (reading.heading_in reader.old) result reader.new }
-{
-    reader.directive(b"function")?;
-    let name = reader.word()?;
-    if name == b"main".as_slice() {
-        parens(reader)?;
-        stated(reader)
-    } else {
-        Err(ReadFault::OtherForm)
-    }
-}
-
-/// Declared locals, and codes behind them.
-fn declared(alloc: Global, reader: &mut Reader, stated: Option<HType>) -> Result<Main, ReadFault>
-    ensures { Gives (reading.declared_in stated reader.old) result reader.new }
-{
-    let locals = names(alloc, reader)?;
-    let first = reader.word()?;
-    coded(alloc, reader, stated, locals, first)
-}
-
-fn coded<'a>(
-    alloc: Global,
-    reader: &mut Reader<'a>,
-    stated: Option<HType>,
-    locals: Seq<Text>,
-    first: &'a [u8],
-) -> Result<Main, ReadFault>
-    requires { length locals ≤ 255 }
-    ensures { Gives (reading.coded stated locals first.now reader.old) result reader.new }
-{
-    let codes = codes(alloc, reader, locals.as_slice(), first)?;
-    Ok(Main {
-        stated,
-        locals,
-        codes,
-    })
-}
-
-/// What stands between the braces.
-fn inner(alloc: Global, reader: &mut Reader, stated: Option<HType>) -> Result<Main, ReadFault>
-    ensures { Gives (reading.inner_in stated reader.old) result reader.new }
-{
-    match reader.take() {
-        Piece::Directive(word) => {
-            if word == b"declvars".as_slice() {
-                declared(alloc, reader, stated)
-            } else {
-                Err(ReadFault::OtherForm)
+    for assert in asserts {
+        if let Assert::Stack(slot, _) = assert {
+            if (*slot as usize) >= depth {
+                return false;
             }
         }
-        Piece::Word(name) => coded(alloc, reader, stated, Seq::new(alloc), name),
-        _ => Err(ReadFault::OtherForm),
+    }
+    true
+}
+
+/// Whether each code and each assertion finds its slots on the stack.
+fn walks(lines: &[Line]) -> bool
+    ensures { result ≡ walks_asserted 0 (map position_of lines.now) }
+{
+    let mut depth: usize = 0;
+    for line in lines {
+        let (taken, put) = slots_of(line.step);
+        if !reach(line.asserts.as_slice(), depth) || taken > depth {
+            return false;
+        }
+        depth = put + (depth - taken);
+    }
+    true
+}
+
+/// The codes of a body, where they are of the form and keep to the stack.
+#[tactic(auto, using(crate::proofs::Fitting::codes_made, crate::proofs::Fitting::not_last, crate::proofs::Fitting::not_walked))]
+fn codes_of(alloc: Global, positions: &[Position], locals: usize) -> Result<Seq<Line>, Unfit>
+    ensures read { IfOk result (λ lines. mains.AreCodes locals positions.now lines) }
+    ensures other { result ≡ Err Unfit.OtherForm → forms.FitClaimed locals positions.now → walks_asserted 0 positions.now ≡ true → ⊥ }
+{
+    match lines_of(alloc, positions, locals) {
+        Ok(lines) => {
+            if returns_last(lines.as_slice()) && walks(lines.as_slice()) {
+                Ok(lines)
+            } else {
+                Err(Unfit::OtherForm)
+            }
+        }
+        Err(unfit) => Err(unfit),
     }
 }
 
-/// The end of the body and of the text.
-fn closing(reader: &mut Reader) -> Result<(), ReadFault>
-    ensures { Passes (reading.closing_in reader.old) result reader.new }
+/// The place of the first local of a name.
+fn place_of(locals: &[Text], name: &[u8]) -> Option<usize>
+    ensures { result ≡ linking.place_of name.now locals.now }
 {
-    reader.mark(b'}')?;
-    reader.end()
+    locals.iter().position(|local| local.bytes() == name)
 }
 
-#[tactic(auto, unfolding(crate::specs::Reading::main_in))]
-fn main_in(alloc: Global, reader: &mut Reader) -> Result<Main, ReadFault>
-    ensures { Reads (reading.main_in reader.old) result }
+/// The locals of a body, where no two have one name.
+fn locals_of(alloc: Global, names: &[Text]) -> Result<Seq<Text>, Unfit>
+    ensures read { IfOk result (λ locals. (locals ≡ names.now) × forms.AllDiffer names.now) }
+    ensures other { result ≡ Err Unfit.OtherForm → forms.AllDiffer names.now → ⊥ }
 {
-    profile(reader)?;
-    let stated = heading(reader)?;
-    let main = inner(alloc, reader, stated)?;
-    closing(reader)?;
-    Ok(main)
-}
-
-fn has_comment(text: &[u8]) -> bool
-    ensures { result ≡ reading.has_comment text.now }
-{
-    text.iter().any(|byte| *byte == b'#')
-}
-
-/// The function of a text of the form that is read.
-pub fn read(alloc: Global, text: &[u8]) -> Result<Main, ReadFault>
-    requires { length text.now < 2 ^ 32 }
-    ensures { Reads (reading.main_of text.now) result }
-{
-    if has_comment(text) {
-        return Err(ReadFault::OtherForm);
+    let mut locals = Seq::new(alloc);
+    for name in names {
+        if place_of(locals.as_slice(), name.bytes()).is_some() {
+            return Err(Unfit::OtherForm);
+        }
+        locals.push(name.copy(alloc)?)?;
     }
-    main_in(alloc, &mut Reader::new(text))
+    Ok(locals)
 }
 
-/// What is read is of a text of the form, and its repository is the text's.
-pub fn reading_is_sound()
-    ensures { ReadingIsSound }
-{}
+fn is_main(name: &[u8]) -> bool
+    ensures { IsTrue result ↔ (name.now ≡ codes "main") }
+{
+    name == b"main".as_slice()
+}
 
-/// Each text of the form is read, and its repository is what was read.
-pub fn reading_is_complete()
-    ensures { ReadingIsComplete }
-{}
+/// Whether all but the names of its locals and its codes is of the form.
+fn has_head(body: &Body) -> bool
+    ensures { IsTrue result ↔ mains.IsHead body.now }
+{
+    if !is_main(body.name.bytes()) {
+        return false;
+    }
+    if body.params > 0 || body.iters > 0 {
+        return false;
+    }
+    if !body.regions.as_slice().is_empty() {
+        return false;
+    }
+    if !is_stated(&body.stated) {
+        return false;
+    }
+    body.locals.as_slice().len() <= MAX_LOCALS && body.positions.as_slice().len() <= MAX_CODES
+}
 
-/// The ints of a text of the form are of 64 bits.
-pub fn read_text_has_words()
-    ensures { ReadTextHasWords }
-{}
+/// What is made of a body of the form.
+#[tactic(auto, using(crate::proofs::Fitting::head_of))]
+fn main_in(alloc: Global, body: &Body) -> Result<Main, Unfit>
+    ensures read { IfOk result (λ main. mains.IsMainIn body.now main) }
+    ensures other { result ≡ Err Unfit.OtherForm → forms.IsSecondBody body.now → walks_asserted 0 body.now.positions ≡ true → ⊥ }
+{
+    if !has_head(body) {
+        return Err(Unfit::OtherForm);
+    }
+    match locals_of(alloc, body.locals.as_slice()) {
+        Ok(locals) => coded(alloc, body, locals),
+        Err(unfit) => Err(unfit),
+    }
+}
+
+/// What is made of the codes of a body, with the locals copied.
+#[tactic(auto, using(crate::proofs::Fitting::main_made))]
+fn coded(alloc: Global, body: &Body, locals: Seq<Text>) -> Result<Main, Unfit>
+    requires copied { locals ≡ body.now.locals }
+    requires head { mains.IsHead body.now }
+    requires differ { forms.AllDiffer body.now.locals }
+    ensures read { IfOk result (λ main. mains.IsMainIn body.now main) }
+    ensures other { result ≡ Err Unfit.OtherForm → forms.IsSecondBody body.now → walks_asserted 0 body.now.positions ≡ true → ⊥ }
+{
+    match codes_of(alloc, body.positions.as_slice(), locals.as_slice().len()) {
+        Ok(codes) => Ok(Main {
+            stated: body.stated,
+            locals,
+            codes,
+        }),
+        Err(unfit) => Err(unfit),
+    }
+}
+
+/// The function that is all of a repository of the form.
+pub fn main_of(alloc: Global, repo: &Repo) -> Result<Main, Unfit>
+    ensures read { IfOk result (λ main. mains.IsMainOf repo.now main) }
+    ensures other { result ≡ Err Unfit.OtherForm → IsSecondForm repo.now → Types repo.now → ⊥ }
+{
+    types_where_asserted_walks();
+    let [body] = repo.functions() else {
+        return Err(Unfit::OtherForm);
+    };
+    if !repo.classes().is_empty() {
+        return Err(Unfit::OtherForm);
+    }
+    main_in(alloc, body)
+}

@@ -4,10 +4,9 @@
 ghost use Rattle.std.specs.Prelude.{◌≡◌, ◌⊎◌, IfErr};
 
 mod annotation;
-mod claims;
+mod fault_lines;
 mod form;
 mod machine;
-mod reader;
 mod report;
 mod status;
 #[cfg(test)]

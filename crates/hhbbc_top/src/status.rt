@@ -14,11 +14,15 @@ pub enum Status {
     AssertFalse,
     /// The words name no command.
     Usage,
+    /// The text is none of the grammar.
+    BadText,
+    /// A check of linking fails.
+    BadLink,
     /// The text has more bytes than the command takes.
     TooLong,
     /// There was no memory.
     NoMemory,
-    /// The text is of a form that isn't built yet.
+    /// The command does no more with the text's repository yet.
     NotYet,
     /// A read failed.
     ReadFault,
@@ -37,6 +41,8 @@ impl Status {
             Status::StepsSpent => 3,
             Status::AssertFalse => 4,
             Status::Usage => 64,
+            Status::BadText => 65,
+            Status::BadLink => 66,
             Status::TooLong => 69,
             Status::NoMemory => 70,
             Status::NotYet => 72,
@@ -46,7 +52,8 @@ impl Status {
     }
 }
 
-/// The line to standard error of a status that no run ends with; a run has a line of its own.
+/// The line to standard error of a status whose line is always the same. A run, and a fault of a text, have lines of
+/// their own.
 pub fn line_of(status: Status) -> &'static [u8]
     ensures { result.now ≡ answer.line_of status }
 {
@@ -55,6 +62,8 @@ pub fn line_of(status: Status) -> &'static [u8]
         | Status::Uncaught
         | Status::StepsSpent
         | Status::AssertFalse
+        | Status::BadText
+        | Status::BadLink
         | Status::WriteFault => b"",
         Status::Usage => b"usage\n",
         Status::TooLong => b"too long\n",

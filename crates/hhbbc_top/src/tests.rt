@@ -1,8 +1,9 @@
 use crate::annotation::annotated;
-use crate::form::read;
+use crate::form::main_of;
 use crate::{Status, hhbbc};
 use hack_values::{Seq, Text};
 use hh_io::{MemSink, MemSource};
+use hhas_read::read_text;
 use std::alloc::Global;
 use std::process::Abort;
 use std::test::Fail;
@@ -25,6 +26,12 @@ const CLAIMED: &[u8] =
     b".profile 1;\n.function main() .returns Int=3 {\n  .declvars $x;\n  AssertRATL $x Uninit\n  Int 2\n  AssertRATStk 0 Bool\n  AssertRATL $x Cell\n  SetL $x\n  PopC\n  AssertRATL $x Str\n  CGetL $x\n  AssertRATStk 0 Int\n  AssertRATStk 0 Null\n  RetC\n}\n";
 
 const RUN: &[u8] = b"run";
+
+const CHECK: &[u8] = b"check";
+
+/// Classes, a loop over a dict, and nested try bodies.
+const COUNTER: &[u8] =
+    b".profile 1;\n.function main() {\n  .declvars $c, $k, $n;\n  .numiters 1;\n  NewObjD Counter\n  Dup\n  NullUninit\n  FCallCtor 0\n  PopC\n  LockObj\n  PopL $c\n  CGetL $c\n  NullUninit\n  String \"a\"\n  FCallObjMethodD 1 add\n  PopC\n  CGetL $c\n  NullUninit\n  String \"b\"\n  FCallObjMethodD 1 add\n  PopC\n  .try {\n    BaseL $c\n    QueryM 0 CGet PT:counts\n    IterInit 0 K:$k V:$n L1\n    .try {\n      L0:\n      CGetL $k\n      Print\n      PopC\n      CGetL $n\n      Print\n      PopC\n      IterNext 0 K:$k V:$n L0\n      Jmp L1\n    } .catch {\n      IterFree 0\n      Throw\n    }\n  } .catch {\n    PopC\n  }\n  L1:\n  Null\n  RetC\n}\n.class Counter {\n  .property counts = Dict;\n  .method __construct() {\n    Null\n    RetC\n  }\n  .method add($k) {\n    VerifyParamType $k Str\n    BaseH\n    Dim PT:counts\n    QueryM 0 CGetQuiet EL:$k\n    IsTypeC Null\n    JmpZ L0\n    Int 0\n    BaseH\n    Dim PT:counts\n    SetM 0 EL:$k\n    PopC\n    L0:\n    BaseH\n    Dim PT:counts\n    IncDecM 0 PreInc EL:$k\n    RetC\n  }\n}\n";
 
 const STEPS: &[u8] = b"--steps";
 
@@ -124,7 +131,11 @@ fn early_answers(rt: HostRuntime) -> Result<(), Fail> {
             WORDS.as_slice(),
             b"".as_slice(),
             NONE,
-            (Status::NotYet, b"".as_slice(), b"not yet\n".as_slice()),
+            (
+                Status::BadText,
+                b"".as_slice(),
+                b"bad text at 0\n".as_slice(),
+            ),
         ),
         (
             &WORDS,
@@ -164,47 +175,95 @@ fn early_answers(rt: HostRuntime) -> Result<(), Fail> {
     Ok(())
 }
 
+/// A text behind whose codes nothing is done yet.
+const NOT_YET: (Status, &[u8], &[u8]) = (Status::NotYet, b"", b"not yet\n");
+
 #[test]
-fn other_forms_are_not_yet(rt: HostRuntime) -> Result<(), Fail> {
-    for text in [
-        b".profile 1;".as_slice(),
-        b".profile 2;.function main(){Null RetC}",
-        b".profile 1;.function other(){Null RetC}",
-        b".profile 1;.function main($x){Null RetC}",
-        b".profile 1;.function main(){Null RetC}.function f(){Null RetC}",
-        b".profile 1;.function main(){RetC}",
-        b".profile 1;.function main(){Null Null}",
-        b".profile 1;.function main(){Null RetC Null RetC}",
-        b".profile 1;.function main(){.numiters 0;Null RetC}",
-        b".profile 1;.function main() .returns {Null RetC}",
-        b".profile 1;.function main() .returns Obj {Null RetC}",
-        b".profile 1;.function main() .returns Int|Str {Null RetC}",
-        b".profile 1;.function main() .returns Int= {Null RetC}",
-        b".profile 1;.function main() .returns Str=\"a\" {Null RetC}",
-        b".profile 1;.function main(){AssertRATStk 0 Cell Null RetC}",
-        b".profile 1;.function main(){Null AssertRATStk 1 Cell RetC}",
-        b".profile 1;.function main(){Null AssertRATStk -1 Cell RetC}",
-        b".profile 1;.function main(){Null AssertRATStk 0 Int|Str RetC}",
-        b".profile 1;.function main(){Null AssertRATStk 0 Obj RetC}",
-        b".profile 1;.function main(){Null AssertRATL $x Cell RetC}",
-        b".profile 1;.function main(){Null RetC AssertRATStk 0 Cell}",
-        b".profile 1;.function main(){CGetL $x RetC}",
-        b".profile 1;.function main(){.declvars $x, $x;CGetL $x RetC}",
-        b".profile 1;.function main(){.declvars;Null RetC}",
-        b".profile 1;.function main(){L: Null RetC}",
-        b".profile 1;.function main(){Int 9223372036854775808 RetC}",
-        b".profile 1;.function main(){Null RetC} # a comment",
-        b".profile 1;.function main(){String \"a\" RetC}",
-        b".profile 1;.function main(){Null RetC} \"",
+fn texts_are_judged_by_what_they_spell(rt: HostRuntime) -> Result<(), Fail> {
+    for (word, text, wanted) in [
+        (CHECK, FIRST, NOT_YET),
+        (CHECK, COUNTER, NOT_YET),
+        (b"analyze".as_slice(), COUNTER, NOT_YET),
+        (RUN, COUNTER, NOT_YET),
+        (RUN, b".profile 1;", NOT_YET),
+        (RUN, b".profile 1;.function main(){RetC}", NOT_YET),
+        (
+            RUN,
+            b".profile 1;.function main(){String \"a\" RetC}",
+            NOT_YET,
+        ),
+        (
+            RUN,
+            b".profile 1;.function main() .returns Int|Str {Null RetC}",
+            NOT_YET,
+        ),
+        (
+            RUN,
+            b".profile 1;.function main(){.numiters 0;L: Null RetC} # a comment",
+            (Status::Done, b"", b"returned null\n"),
+        ),
+        (CHECK, b"", (Status::BadText, b"", b"bad text at 0\n")),
+        (
+            RUN,
+            b".profile 2;",
+            (Status::BadText, b"", b"bad text at 9\n"),
+        ),
+        (
+            CHECK,
+            b".profile 1;\n.function main() {\n  String \"ab",
+            (Status::BadText, b"", b"bad text at 40\n"),
+        ),
+        (
+            CHECK,
+            b".profile 1;\n.function main() {\n  Int 9223372036854775808",
+            (Status::BadText, b"", b"bad text at 37\n"),
+        ),
+        (
+            CHECK,
+            b".profile 1;.class A extends B { }.class B extends A { }",
+            (Status::BadLink, b"", b"bad link ClassCycle A A\n"),
+        ),
+        (
+            CHECK,
+            b".profile 1;.function main(){CGetL $x RetC}",
+            (Status::BadLink, b"", b"bad link UnknownName main $x\n"),
+        ),
+        (
+            CHECK,
+            b".profile 1;.function main(){.numiters 33;Null RetC}",
+            (
+                Status::BadLink,
+                b"",
+                b"bad link OverLimit main iterators 33\n",
+            ),
+        ),
     ] {
-        expect(
-            &rt,
+        expect(&rt, rt.alloc(), &[word], text, NONE, wanted)?;
+    }
+    Ok(())
+}
+
+/// Whether the status is one that `check` gives a text so far.
+fn is_of_check(status: Status) -> bool {
+    matches!(status, Status::BadText | Status::BadLink | Status::NotYet)
+}
+
+#[test]
+fn each_front_of_a_text_has_its_status(rt: HostRuntime) -> Result<(), Fail> {
+    let words = texts(rt.alloc(), &[CHECK])?;
+    for end in 0..=COUNTER.len() {
+        let text = Text::from_bytes(rt.alloc(), &COUNTER[..end])?;
+        let mut source = MemSource::new(text, numbers(rt.alloc(), &[])?);
+        let mut out = MemSink::new(rt.alloc(), 0, numbers(rt.alloc(), &[])?)?;
+        let mut err = MemSink::new(rt.alloc(), 64, numbers(rt.alloc(), &[])?)?;
+        let status = hhbbc(
             rt.alloc(),
-            &WORDS,
-            text,
-            NONE,
-            (Status::NotYet, b"", b"not yet\n"),
-        )?;
+            words.as_slice(),
+            &mut source,
+            &mut out,
+            &mut err,
+        );
+        assert_eq!(rt; is_of_check(status), true);
     }
     Ok(())
 }
@@ -266,7 +325,7 @@ fn runs_end_as_they_should(rt: HostRuntime) -> Result<(), Fail> {
                 b"uncaught UndefinedVariableException \"undefined $a\\\\b\" at main@0\n",
             ),
         ),
-        (&[RUN], b"", (Status::NotYet, b"", b"not yet\n")),
+        (&[RUN], b"", (Status::BadText, b"", b"bad text at 0\n")),
     ] {
         expect(&rt, rt.alloc(), words, text, NONE, wanted)?;
     }
@@ -291,6 +350,7 @@ fn other_words_are_usage(rt: HostRuntime) -> Result<(), Fail> {
         &[RUN, b"main"],
         &[RUN, RUN],
         &[b"analyze", ASSERTS],
+        &[CHECK, ASSERTS],
         &[b"Run"],
     ] {
         expect(
@@ -307,7 +367,10 @@ fn other_words_are_usage(rt: HostRuntime) -> Result<(), Fail> {
 
 #[test]
 fn an_annotated_repository_is_looked_up(rt: HostRuntime) -> Result<(), Fail> {
-    let Ok(main) = read(rt.alloc(), FIRST) else {
+    let Ok(read) = read_text(rt.alloc(), &Text::from_bytes(rt.alloc(), FIRST)?) else {
+        return Err(Fail::from("the first example links"));
+    };
+    let Ok(main) = main_of(rt.alloc(), &read) else {
         return Err(Fail::from("the first example is of the form"));
     };
     let repo = annotated(rt.alloc(), main)?;

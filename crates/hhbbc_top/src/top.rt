@@ -5,6 +5,7 @@ ghost use Rattle.std.specs.Io.KnownBytes.{IsAtEnd};
 ghost use Rattle.hh_io.specs.Counts.{Rose};
 ghost use Rattle.hh_io.specs.Sources.{IsLonger, IsWithin, ReadsPerByte};
 ghost use Rattle.hh_io.specs.Sinks.{Takes, TakesPart};
+ghost use Rattle.hhas_read.specs.LinkedTexts.{IsReadFault};
 ghost use Rattle.hhbc_repo.specs.Truth.{IsNeverStuck};
 ghost use Rattle.hhbbc_top.specs.Answer as answers;
 ghost use Rattle.hhbbc_top.specs.Commands as commands;
@@ -12,9 +13,9 @@ ghost use Rattle.hhbbc_top.specs.Forms.{repo_of};
 ghost use Rattle.hhbbc_top.specs.Words.{command_of};
 
 use crate::annotation::annotated;
-use crate::form::{Main, read, read_text_has_words, reading_is_complete, reading_is_sound};
+use crate::fault_lines::{link_fault_line, text_fault_line};
+use crate::form::{Main, Unfit, main_of};
 use crate::machine::{Ending, run};
-use crate::reader::ReadFault;
 use crate::report::report_of;
 use crate::status::{Status, line_of};
 use crate::words::{Command, command_of};
@@ -22,18 +23,16 @@ use crate::writer::text_of;
 use func_analyze::{bare_chain_annotates, second_is_faithful, second_is_unique};
 use hack_values::{NoMemory, Text};
 use hh_io::{ReadError, Sink, Source, read_all, write_all};
-use hhbc_repo::second_form_never_sticks;
+use hhas_read::{ReadFault, first_fault_is_one, read_text, text_spells_one_repository};
+use hhbc_repo::{Repo, second_form_never_sticks};
 use std::alloc::Global;
-
-/// The longest text of the form that is read, in bytes.
-const FORM_LIMIT: usize = 16_777_216;
 
 /// What is to be written where a command did its work.
 #[derive(Drop)]
 pub enum Answer {
     /// A text for standard output.
     Text(Text),
-    /// The status of a run, and its line for standard error.
+    /// The status of a run, or of a text that has a fault, and its line for standard error.
     Line(Status, Text),
 }
 
@@ -51,7 +50,9 @@ pub fn hhbbc<S: Source, K: Sink, E: Sink>(
     ensures other_words { command_of words.now ≡ None → (source.new ≡ source.old) × ((result ≡ Status.Usage) ⊎ (result ≡ Status.WriteFault)) }
     ensures read_fault { result ≡ Status.ReadFault → Rose (S.faults source.old) (S.faults source.new) }
     ensures too_long { result ≡ Status.TooLong → IsLonger (S.left source.old) (answers.read_limit (command_of words.now)) }
-    ensures not_yet { result ≡ Status.NotYet → IsAtEnd (S.left source.new) × IsWithin (S.left source.old) (answers.read_limit (command_of words.now)) × IfSome (S.left source.old) answers.IsOtherText }
+    ensures bad_text { result ≡ Status.BadText → IsAtEnd (S.left source.new) × IsWithin (S.left source.old) (answers.read_limit (command_of words.now)) × IfSome (S.left source.old) answers.HasTextFault }
+    ensures bad_link { result ≡ Status.BadLink → IsAtEnd (S.left source.new) × IsWithin (S.left source.old) (answers.read_limit (command_of words.now)) × IfSome (S.left source.old) answers.HasLinkFault }
+    ensures not_yet { result ≡ Status.NotYet → IsAtEnd (S.left source.new) × IsWithin (S.left source.old) (answers.read_limit (command_of words.now)) × IfSome (S.left source.old) (answers.IsUnservedText (command_of words.now)) }
     ensures no_memory { result ≡ Status.NoMemory → out.new ≡ out.old }
     ensures write_fault { result ≡ Status.WriteFault → Rose (K.faults out.old) (K.faults out.new) ⊎ Rose (E.faults err.old) (E.faults err.new) }
 
@@ -65,6 +66,8 @@ pub fn hhbbc<S: Source, K: Sink, E: Sink>(
     ensures reads { S.reads source.new ≤ S.reads source.old + answers.read_limit (command_of words.now) + 2 }
     ensures reads_told { ReadsPerByte (S.left source.old) (S.left source.new) (S.reads source.old) (S.reads source.new) }
 {
+    text_spells_one_repository();
+    first_fault_is_one();
     let answer = answer_for(alloc, words, source);
     deliver(out, err, answer)
 }
@@ -88,6 +91,7 @@ fn limit_of(command: Command) -> u32
     ensures { result ≡ answers.limit_of command }
 {
     match command {
+        Command::Check => 134_217_728,
         Command::Analyze => 16_777_216,
         Command::Run(_, _) => 134_217_728,
     }
@@ -101,7 +105,7 @@ fn obey<S: Source>(alloc: Global, command: Command, source: &mut S) -> Result<An
     ensures reads_told { ReadsPerByte (S.left source.old) (S.left source.new) (S.reads source.old) (S.reads source.new) }
 {
     match read_all(alloc, source, limit_of(command)) {
-        Ok(text) => answer_to(alloc, command, text.bytes()),
+        Ok(text) => answer_to(alloc, command, &text),
         Err(ReadError::ReadFailed) => Err(Status::ReadFault),
         Err(ReadError::TooLong) => Err(Status::TooLong),
         Err(ReadError::NoMemory) => Err(Status::NoMemory),
@@ -109,35 +113,88 @@ fn obey<S: Source>(alloc: Global, command: Command, source: &mut S) -> Result<An
 }
 
 /// What a command answers to a text.
-fn answer_to(alloc: Global, command: Command, text: &[u8]) -> Result<Answer, Status>
+fn answer_to(alloc: Global, command: Command, text: &Text) -> Result<Answer, Status>
     requires { length text.now < 2 ^ 32 }
     ensures { commands.AnswersTo command text.now (answers.status_of result) (answers.out_of result) (answers.line_to result) }
 {
-    reading_is_sound();
-    reading_is_complete();
     bare_chain_annotates();
     second_is_faithful();
-    read_text_has_words();
     second_is_unique();
-    second_form_never_sticks();
-    if text.len() > FORM_LIMIT {
-        return Err(Status::NotYet);
-    }
-    match read(alloc, text) {
-        Ok(main) => done(alloc, command, main),
-        Err(ReadFault::OtherForm) => Err(Status::NotYet),
-        Err(ReadFault::NoMemory) => Err(Status::NoMemory),
+    text_spells_one_repository();
+    match read_text(alloc, text) {
+        Ok(repo) => served(alloc, command, &repo),
+        Err(fault) => fault_told(alloc, fault),
     }
 }
 
-/// What a command makes of the function of a text.
-fn done(alloc: Global, command: Command, main: Main) -> Result<Answer, Status>
-    requires { IsNeverStuck (repo_of main) }
-    ensures { commands.Does command main result }
+/// The answer of a text that gives no repository.
+#[tactic(auto, using(crate::proofs::Headline::text_told, crate::proofs::Headline::link_told))]
+fn fault_told(alloc: Global, fault: ReadFault) -> Result<Answer, Status>
+    ensures { (c : Command) (bytes : List ℕ) → IsReadFault bytes fault → commands.AnswersTo c bytes (answers.status_of result) (answers.out_of result) (answers.line_to result) }
+{
+    match fault {
+        ReadFault::TextFault(at) => told(Status::BadText, text_fault_line(alloc, at)),
+        ReadFault::LinkFault(fault) => told(Status::BadLink, link_fault_line(alloc, &fault)),
+        ReadFault::NoMemory => Err(Status::NoMemory),
+    }
+}
+
+/// The answer of a text that has a fault.
+fn told(status: Status, line: Result<Text, NoMemory>) -> Result<Answer, Status>
+    ensures { result ≡ answers.told status line }
+{
+    match line {
+        Ok(line) => Ok(Answer::Line(status, line)),
+        Err(NoMemory) => Err(Status::NoMemory),
+    }
+}
+
+/// What a command makes of the repository of a text.
+fn served(alloc: Global, command: Command, repo: &Repo) -> Result<Answer, Status>
+    ensures { commands.Serves command repo.now result }
 {
     match command {
-        Command::Analyze => written(alloc, main),
-        Command::Run(steps, asserted) => reported(alloc, &main, steps, asserted),
+        Command::Check => checked(repo),
+        Command::Analyze => analyzed(alloc, repo),
+        Command::Run(steps, asserted) => main_run(alloc, repo, steps, asserted),
+    }
+}
+
+/// That a repository keeps to its shapes isn't checked yet.
+fn checked(repo: &Repo) -> Result<Answer, Status>
+    ensures { commands.Serves Command.Check repo.now result }
+{
+    Err(Status::NotYet)
+}
+
+/// The status of a repository that isn't gone on with.
+fn status_of(unfit: Unfit) -> Status
+    ensures { result ≡ answers.status_of_unfit unfit }
+{
+    match unfit {
+        Unfit::OtherForm => Status::NotYet,
+        Unfit::NoMemory => Status::NoMemory,
+    }
+}
+
+/// The annotated text of a repository.
+fn analyzed(alloc: Global, repo: &Repo) -> Result<Answer, Status>
+    ensures { commands.Serves Command.Analyze repo.now result }
+{
+    match main_of(alloc, repo) {
+        Ok(main) => written(alloc, main),
+        Err(unfit) => Err(status_of(unfit)),
+    }
+}
+
+/// How the function of a repository runs.
+fn main_run(alloc: Global, repo: &Repo, steps: u32, asserted: bool) -> Result<Answer, Status>
+    ensures { commands.Serves (Command.Run steps asserted) repo.now result }
+{
+    second_form_never_sticks();
+    match main_of(alloc, repo) {
+        Ok(main) => reported(alloc, &main, steps, asserted),
+        Err(unfit) => Err(status_of(unfit)),
     }
 }
 

@@ -10,6 +10,8 @@ use hack_values::Text;
 /// What the program is to do.
 #[derive(Clone, Copy, Debug, PartialEq, Eq)]
 pub enum Command {
+    /// Reads and links the text.
+    Check,
     /// Annotates the text.
     Analyze,
     /// Runs the text's `main` with at most so many steps, and with its assertions tested or not.
@@ -112,6 +114,13 @@ fn options(rest: &[Text]) -> Option<Command>
     }
 }
 
+/// A command that takes no further words.
+fn alone(command: Command, rest: &[Text]) -> Option<Command>
+    ensures { result ≡ words.alone command rest.now }
+{
+    if rest.is_empty() { Some(command) } else { None }
+}
+
 /// The command of the words behind the program's name, where they are those of one.
 pub fn command_of(all: &[Text]) -> Option<Command>
     ensures { result ≡ words.command_of all.now }
@@ -120,11 +129,9 @@ pub fn command_of(all: &[Text]) -> Option<Command>
         return None;
     };
     if word.bytes() == b"analyze".as_slice() {
-        if rest.is_empty() {
-            Some(Command::Analyze)
-        } else {
-            None
-        }
+        alone(Command::Analyze, rest)
+    } else if word.bytes() == b"check".as_slice() {
+        alone(Command::Check, rest)
     } else if word.bytes() == b"run".as_slice() {
         options(rest)
     } else {

@@ -1,0 +1,9 @@
+use Rattle.hhbbc_top.proofs.Headline.{goes-with, left-as}
+use Rattle.hhbbc_top.specs.declared.words.Command.TheVariants.{Analyze}
+use Rattle.hhbbc_top.proofs.top.analyzed.Goals as goal
+
+pub returns-in-Ok : goal.returns-in-Ok
+returns-in-Ok c = goes-with Analyze c.args.repo.now c.in-Ok.main c.written.result c.in-Ok.ensures.read c.written.ensures
+
+pub returns-in-Err : goal.returns-in-Err
+returns-in-Err c = rw c.status_of.ensures (left-as Analyze c.args.repo.now c.in-Err.unfit c.in-Err.ensures.other)
