@@ -2,8 +2,8 @@
 """Times the built program on a long text: the first example, filled with white space to the longest text that is read.
 
 Prints seconds and peak memory of each run, beside those of `wc -c` on the same file: the program annotating the
-text, refusing a text of another form as long, and refusing one that is a byte too long; and running the text, and
-refusing to run longer ones.
+text, refusing a text with a fault at its end, and refusing one that is a byte too long; checking and running the text as
+long as those commands take it, and refusing to run a longer one.
 """
 
 import os
@@ -45,12 +45,13 @@ def main():
     for name, command, begin, size, end, wanted in [
         ("annotated", "analyze", text, LIMIT // 4, b"", 0),
         ("annotated", "analyze", text, LIMIT, b"", 0),
-        ("refused", "analyze", b".profile 1;", LIMIT // 4, b"x", 72),
-        ("refused", "analyze", b".profile 1;", LIMIT, b"x", 72),
+        ("bad text", "analyze", b".profile 1;", LIMIT // 4, b"x", 65),
+        ("bad text", "analyze", b".profile 1;", LIMIT, b"x", 65),
         ("too long", "analyze", text, LIMIT + 1, b"", 69),
         ("ran", "run", text, LIMIT // 4, b"", 0),
         ("ran", "run", text, LIMIT, b"", 0),
-        ("not yet", "run", text, RUN_LIMIT, b"", 72),
+        ("ran", "run", text, RUN_LIMIT, b"", 0),
+        ("checked", "check", text, RUN_LIMIT, b"", 72),
         ("too long", "run", text, RUN_LIMIT + 1, b"", 69),
     ]:
         with tempfile.NamedTemporaryFile() as file:
