@@ -5,3 +5,5 @@ pub mod Along
 pub mod Stacks
 pub mod Machines
 pub mod CommandWords
+pub mod Counting
+pub mod BodyNames

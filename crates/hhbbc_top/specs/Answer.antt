@@ -16,14 +16,15 @@ use Rattle.hhbc_repo.specs.Truth.{IsFaithful}
 use Rattle.hhas_read.specs.LinkedTexts.{LinksWithFault, ReadsRepository}
 use Rattle.func_analyze.specs.Annotated.{IsAnnotated}
 use Rattle.hhbbc_top.specs.declared.status.Status.{Status}
-use Rattle.hhbbc_top.specs.declared.status.Status.TheVariants.{Done, Uncaught, StepsSpent, AssertFalse, Usage, BadText, BadLink, TooLong, NoMemory, NotYet, ReadFault, WriteFault}
+use Rattle.hhbbc_top.specs.declared.status.Status.TheVariants.{Done, Uncaught, StepsSpent, AssertFalse, Usage, BadText, BadLink, BadShape, TooLong, NoMemory, NotYet, ReadFault, WriteFault}
 use Rattle.hhbbc_top.specs.declared.form.Unfit.{Unfit}
 use Rattle.hhbbc_top.specs.declared.form.Unfit.TheVariants as unfits
 use Rattle.hhbbc_top.specs.declared.words.Command.{Command}
 use Rattle.hhbbc_top.specs.declared.words.Command.TheVariants.{Check, Analyze, Run}
 use Rattle.hhbbc_top.specs.declared.top.Answer.{Answer}
 use Rattle.hhbbc_top.specs.declared.top.Answer.TheVariants as answers
-use Rattle.hhbbc_top.specs.FaultLines.{bad_text, bad_link}
+use Rattle.hhbbc_top.specs.Counts.{counts_line}
+use Rattle.hhbbc_top.specs.FaultLines.{ShapeFault, IsFirst, bad_text, bad_link, bad_shape}
 use Rattle.hhbbc_top.specs.ReadText.{IsReadText}
 use Rattle.hhbbc_top.specs.Report.{run_line, HasStatus}
 use Rattle.hhbbc_top.specs.Words.{command_of}
@@ -37,6 +38,7 @@ number_of AssertFalse = 4
 number_of Usage = 64
 number_of BadText = 65
 number_of BadLink = 66
+number_of BadShape = 67
 number_of TooLong = 69
 number_of NoMemory = 70
 number_of NotYet = 72
@@ -52,6 +54,7 @@ line_of AssertFalse = []
 line_of Usage = codes "usage\n"
 line_of BadText = []
 line_of BadLink = []
+line_of BadShape = []
 line_of TooLong = codes "too long\n"
 line_of NoMemory = codes "no memory\n"
 line_of NotYet = codes "not yet\n"
@@ -99,23 +102,45 @@ pub record IsRunText (bytes : List ℕ) (steps : ℕ) (asserted : Bool) (s : Sta
   pub output : out ≡ (ran repo steps asserted).output
   pub line : told ≡ run_line repo (ran repo steps asserted).outcome
 
--- what a command answers to a text whose repository it goes on with; a check doesn't yet
+-- the text links to a repository that keeps to its shapes
+pub record IsTypedText (bytes : List ℕ) (r : Linked) : Type 0 where
+  pub reads : ReadsRepository bytes r
+  pub types : Types r
+
+-- the line tells how much there is in the repository of the text
+pub record IsCheckedText (bytes out : List ℕ) : Type 0 where
+  pub repo : Linked
+  pub read : IsTypedText bytes repo
+  pub only : (other : Linked) → ReadsRepository bytes other → other ≡ repo
+  pub written : out ≡ counts_line repo
+
+-- what a command answers to a text whose repository it goes on with
 abbrev pub Answers : Command → List ℕ → Status → List ℕ → List ℕ → Type 0
-Answers Check bytes s out line = ⊥
+Answers Check bytes s out line = (s ≡ Done) × IsCheckedText bytes out × (line ≡ [])
 Answers Analyze bytes s out line = (s ≡ Done) × IsAnnotatedText bytes out × (line ≡ [])
 Answers (Run steps asserted) bytes s out line = IsRunText bytes steps asserted s out line
 
+-- it keeps to its shapes, and isn't of the form that is annotated and run
+pub record IsOfOtherForm (r : Linked) : Type 0 where
+  pub types : Types r
+  pub other : IsSecondForm r → ⊥
+
 -- a repository that a command does no more with yet
 abbrev pub IsUnserved : Command → Linked → Type 0
-IsUnserved Check r = Unit {0}
-IsUnserved Analyze r = IsSecondForm r → Types r → ⊥
-IsUnserved (Run steps asserted) r = IsSecondForm r → Types r → ⊥
+IsUnserved Check r = ⊥
+IsUnserved Analyze r = IsOfOtherForm r
+IsUnserved (Run steps asserted) r = IsOfOtherForm r
 
 -- the text links to such a repository
 pub record IsOtherText (c : Command) (bytes : List ℕ) : Type 0 where
   pub repo : Linked
   pub reads : ReadsRepository bytes repo
   pub unserved : IsUnserved c repo
+
+-- the text links, and this is the first check of its repository that fails
+pub record HasFirst (bytes : List ℕ) (f : ShapeFault) : Type 0 where
+  pub reads : ReadsRepository bytes f.repo
+  pub first : IsFirst f
 
 -- a command went through all that the source had left, and P says what it found there
 pub record Ends (c : Command) (left rest : Option (List ℕ)) (before now : ℕ) (P : List ℕ → Type 0) : Type 0 where
@@ -128,12 +153,15 @@ pub record Ends (c : Command) (left rest : Option (List ℕ)) (before now : ℕ)
 abbrev pub Says : Status → List ℕ → List ℕ → Type 0
 Says s out line = (out ≡ []) × (line ≡ line_of s)
 
--- the same, and the line tells the place of a fault of the text, or a fault of linking
+-- the same, and the line tells the place of a fault of the text, or a fault of linking or of shapes
 abbrev pub SaysPlace : ℕ → List ℕ → List ℕ → Type 0
 SaysPlace at out line = (out ≡ []) × (line ≡ bad_text at)
 
 abbrev pub SaysFault : LinkFault → List ℕ → List ℕ → Type 0
 SaysFault f out line = (out ≡ []) × (line ≡ bad_link f)
+
+abbrev pub SaysShape : ShapeFault → List ℕ → List ℕ → Type 0
+SaysShape f out line = (out ≡ []) × (line ≡ bad_shape f)
 
 -- when a status comes of a command, and what is to be written to standard output and standard error: from what the source had
 -- left and has left now, and its count of faults before and now. Memory may be wanting wherever a text is read.
@@ -145,6 +173,7 @@ Obeys c left rest before now AssertFalse out line = Ends c left rest before now 
 Obeys c left rest before now Usage out line = ⊥
 Obeys c left rest before now BadText out line = (at : ℕ) × Ends c left rest before now (λ bytes. FirstFault bytes at) × SaysPlace at out line
 Obeys c left rest before now BadLink out line = (f : LinkFault) × Ends c left rest before now (λ bytes. LinksWithFault bytes f) × SaysFault f out line
+Obeys c left rest before now BadShape out line = (f : ShapeFault) × Ends c left rest before now (λ bytes. HasFirst bytes f) × SaysShape f out line
 Obeys c left rest before now TooLong out line = IsLonger left (limit_of c) × (now ≡ before) × Says TooLong out line
 Obeys c left rest before now NoMemory out line = (now ≡ before) × Says NoMemory out line
 Obeys c left rest before now NotYet out line = Ends c left rest before now (IsOtherText c) × Says NotYet out line
@@ -216,13 +245,22 @@ HasTextFault bytes = (at : ℕ) × FirstFault bytes at
 abbrev pub HasLinkFault : List ℕ → Type 0
 HasLinkFault bytes = (f : LinkFault) × LinksWithFault bytes f
 
+abbrev pub HasShapeFault : List ℕ → Type 0
+HasShapeFault bytes = (f : ShapeFault) × HasFirst bytes f
+
 abbrev pub IsUnservedText : Option Command → List ℕ → Type 0
 IsUnservedText None bytes = ⊥
 IsUnservedText (Some c) bytes = IsOtherText c bytes
 
--- the status that a text of the form has
+-- the text's repository is one that a command goes on with
+abbrev pub IsServed : Command → List ℕ → Linked → Type 0
+IsServed Check bytes repo = IsTypedText bytes repo
+IsServed Analyze bytes repo = IsReadText bytes repo
+IsServed (Run steps asserted) bytes repo = IsReadText bytes repo
+
+-- the status that such a text has
 abbrev pub IsExpected : Command → Linked → Status → Type 0
-IsExpected Check repo s = s ≡ NotYet
+IsExpected Check repo s = s ≡ Done
 IsExpected Analyze repo s = s ≡ Done
 IsExpected (Run steps asserted) repo s = HasStatus (ran repo steps asserted).outcome s
 
@@ -234,8 +272,9 @@ IsOrWants P s = P ⊎ ((s ≡ NoMemory) ⊎ ((s ≡ ReadFault) ⊎ (s ≡ WriteF
 pub record Expects (c : Command) (bytes : List ℕ) (s : Status) : Type 0 where
   pub bad_text : HasTextFault bytes → IsOrWants (s ≡ BadText) s
   pub bad_link : HasLinkFault bytes → IsOrWants (s ≡ BadLink) s
+  pub bad_shape : HasShapeFault bytes → IsOrWants (s ≡ BadShape) s
   pub not_yet : IsOtherText c bytes → IsOrWants (s ≡ NotYet) s
-  pub done : (repo : Linked) → IsReadText bytes repo → IsOrWants (IsExpected c repo s) s
+  pub done : (repo : Linked) → IsServed c bytes repo → IsOrWants (IsExpected c repo s) s
 
 abbrev pub Accepts : List (List ℕ) → Option (List ℕ) → Status → Type 0
 Accepts words left s =

@@ -1,16 +1,20 @@
 -- What a command makes of a text, and of its repository.
-use Rattle.std.specs.Prelude.{◌≡◌, ℕ, List, [], Result, Ok, Err}
+use Rattle.std.specs.Prelude.{◌≡◌, ◌⊎◌, ℕ, List, [], Result, Ok, Err, IfOk}
+use Rattle.hack_values.specs.declared.memory.NoMemory.{NoMemory as Want}
 use Rattle.hhas_read.specs.LinkedTexts.{LinksWithFault}
 use Rattle.hhbc_repo.specs.declared.link_fault.LinkFault.{LinkFault}
 use Rattle.hhbc_repo.specs.Linked.{Linked}
+use Rattle.hhbc_repo.specs.Shapes.{Types}
 use Rattle.hhbc_repo.specs.TextSyntax.{FirstFault}
 use Rattle.hhbbc_top.specs.declared.form.Main.{Main}
 use Rattle.hhbbc_top.specs.declared.status.Status.{Status}
-use Rattle.hhbbc_top.specs.declared.status.Status.TheVariants.{Done, Uncaught, StepsSpent, AssertFalse, Usage, BadText, BadLink, TooLong, NoMemory, NotYet, ReadFault, WriteFault}
+use Rattle.hhbbc_top.specs.declared.status.Status.TheVariants.{Done, Uncaught, StepsSpent, AssertFalse, Usage, BadText, BadLink, BadShape, TooLong, NoMemory, NotYet, ReadFault, WriteFault}
 use Rattle.hhbbc_top.specs.declared.top.Answer.{Answer}
 use Rattle.hhbbc_top.specs.declared.words.Command.{Command}
 use Rattle.hhbbc_top.specs.declared.words.Command.TheVariants.{Check, Analyze, Run}
-use Rattle.hhbbc_top.specs.Answer.{Answers, IsUnserved, IsOtherText, Says, SaysPlace, SaysFault, ran, status_of_answer, out_of_answer, line_of_answer}
+use Rattle.hhbbc_top.specs.Answer.{Answers, IsUnserved, IsOtherText, HasFirst, Says, SaysPlace, SaysFault, SaysShape, ran, told, status_of_answer, out_of_answer, line_of_answer}
+use Rattle.hhbbc_top.specs.Counts.{counts_line}
+use Rattle.hhbbc_top.specs.FaultLines.{ShapeFault, IsFirst, bad_shape}
 use Rattle.hhbbc_top.specs.Forms.{annotated_text, repo_of}
 use Rattle.hhbbc_top.specs.Mains.{IsMainOf}
 use Rattle.hhbbc_top.specs.Report.{run_line, HasStatus}
@@ -28,20 +32,45 @@ abbrev pub Does : Command → Main → Result Answer Status → Type 0
 Does c m (Ok a) = Makes c m (status_of_answer a) (out_of_answer a) (line_of_answer a)
 Does c m (Err s) = s ≡ NoMemory
 
--- of a repository: there is no memory, or it does no more with it, or it goes on with the function that is all of it
+-- it goes on with the function that is all of a repository
 pub record Goes (c : Command) (r : Linked) (a : Answer) : Type 0 where
   pub main : Main
   pub is : IsMainOf r main
   pub makes : Makes c main (status_of_answer a) (out_of_answer a) (line_of_answer a)
+
+-- it tells how much there is in a repository
+pub record Counts (r : Linked) (a : Answer) : Type 0 where
+  pub status : status_of_answer a ≡ Done
+  pub written : out_of_answer a ≡ counts_line r
+  pub line : line_of_answer a ≡ []
+
+abbrev pub Gives : Command → Linked → Answer → Type 0
+Gives Check r a = Counts r a
+Gives Analyze r a = Goes Analyze r a
+Gives (Run steps asserted) r a = Goes (Run steps asserted) r a
 
 abbrev pub Stops : Command → Linked → Status → Type 0
 Stops c r NoMemory = Unit {0}
 Stops c r NotYet = IsUnserved c r
 Stops c r _ = ⊥
 
+-- of a repository that keeps to its shapes: there is no memory, or it does no more with it, or this is what it makes of it
 abbrev pub Serves : Command → Linked → Result Answer Status → Type 0
-Serves c r (Ok a) = Goes c r a
+Serves c r (Ok a) = Gives c r a
 Serves c r (Err s) = Stops c r s
+
+-- the first check of a repository that fails is told, where there is memory for its line
+pub record TellsFirst (r : Linked) (o : Result Answer Status) : Type 0 where
+  pub fault : ShapeFault
+  pub of : fault.repo ≡ r
+  pub first : IsFirst fault
+  pub line : Result (List ℕ) Want
+  pub line_is : IfOk line (λ l. l ≡ bad_shape fault)
+  pub is : o ≡ told BadShape line
+
+-- of each repository
+abbrev pub Judges : Command → Linked → Result Answer Status → Type 0
+Judges c r o = (Types r × Serves c r o) ⊎ (TellsFirst r o ⊎ (o ≡ Err NoMemory))
 
 -- of the bytes that were read
 abbrev pub AnswersTo : Command → List ℕ → Status → List ℕ → List ℕ → Type 0
@@ -51,6 +80,7 @@ AnswersTo c bytes StepsSpent out line = Answers c bytes StepsSpent out line
 AnswersTo c bytes AssertFalse out line = Answers c bytes AssertFalse out line
 AnswersTo c bytes BadText out line = (at : ℕ) × FirstFault bytes at × SaysPlace at out line
 AnswersTo c bytes BadLink out line = (f : LinkFault) × LinksWithFault bytes f × SaysFault f out line
+AnswersTo c bytes BadShape out line = (f : ShapeFault) × HasFirst bytes f × SaysShape f out line
 AnswersTo c bytes NoMemory out line = Says NoMemory out line
 AnswersTo c bytes NotYet out line = IsOtherText c bytes × Says NotYet out line
 AnswersTo c bytes Usage out line = ⊥

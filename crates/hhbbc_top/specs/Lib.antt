@@ -7,3 +7,4 @@ pub mod Report
 pub mod Commands
 pub mod FaultLines
 pub mod Mains
+pub mod Counts

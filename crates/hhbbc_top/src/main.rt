@@ -4,6 +4,7 @@
 ghost use Rattle.std.specs.Prelude.{◌≡◌, ◌⊎◌, IfErr};
 
 mod annotation;
+mod counts;
 mod fault_lines;
 mod form;
 mod machine;

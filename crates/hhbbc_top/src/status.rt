@@ -18,6 +18,8 @@ pub enum Status {
     BadText,
     /// A check of linking fails.
     BadLink,
+    /// A check of shapes fails.
+    BadShape,
     /// The text has more bytes than the command takes.
     TooLong,
     /// There was no memory.
@@ -43,6 +45,7 @@ impl Status {
             Status::Usage => 64,
             Status::BadText => 65,
             Status::BadLink => 66,
+            Status::BadShape => 67,
             Status::TooLong => 69,
             Status::NoMemory => 70,
             Status::NotYet => 72,
@@ -64,6 +67,7 @@ pub fn line_of(status: Status) -> &'static [u8]
         | Status::AssertFalse
         | Status::BadText
         | Status::BadLink
+        | Status::BadShape
         | Status::WriteFault => b"",
         Status::Usage => b"usage\n",
         Status::TooLong => b"too long\n",

@@ -33,6 +33,10 @@ const CHECK: &[u8] = b"check";
 const COUNTER: &[u8] =
     b".profile 1;\n.function main() {\n  .declvars $c, $k, $n;\n  .numiters 1;\n  NewObjD Counter\n  Dup\n  NullUninit\n  FCallCtor 0\n  PopC\n  LockObj\n  PopL $c\n  CGetL $c\n  NullUninit\n  String \"a\"\n  FCallObjMethodD 1 add\n  PopC\n  CGetL $c\n  NullUninit\n  String \"b\"\n  FCallObjMethodD 1 add\n  PopC\n  .try {\n    BaseL $c\n    QueryM 0 CGet PT:counts\n    IterInit 0 K:$k V:$n L1\n    .try {\n      L0:\n      CGetL $k\n      Print\n      PopC\n      CGetL $n\n      Print\n      PopC\n      IterNext 0 K:$k V:$n L0\n      Jmp L1\n    } .catch {\n      IterFree 0\n      Throw\n    }\n  } .catch {\n    PopC\n  }\n  L1:\n  Null\n  RetC\n}\n.class Counter {\n  .property counts = Dict;\n  .method __construct() {\n    Null\n    RetC\n  }\n  .method add($k) {\n    VerifyParamType $k Str\n    BaseH\n    Dim PT:counts\n    QueryM 0 CGetQuiet EL:$k\n    IsTypeC Null\n    JmpZ L0\n    Int 0\n    BaseH\n    Dim PT:counts\n    SetM 0 EL:$k\n    PopC\n    L0:\n    BaseH\n    Dim PT:counts\n    IncDecM 0 PreInc EL:$k\n    RetC\n  }\n}\n";
 
+/// A catch body hands a live iterator on to a label that the loop comes to without one.
+const ITERATOR_LEFT_LIVE: &[u8] =
+    b".profile 1;.function main($c){.declvars $v;.numiters 1;CGetL $c IterInit 0 V:$v L1 L0: .try{CGetL $v PopC IterNext 0 V:$v L0 Jmp L1} .catch{PopC} L1: Null RetC}";
+
 const STEPS: &[u8] = b"--steps";
 
 const ASSERTS: &[u8] = b"--asserts";
@@ -181,12 +185,51 @@ const NOT_YET: (Status, &[u8], &[u8]) = (Status::NotYet, b"", b"not yet\n");
 #[test]
 fn texts_are_judged_by_what_they_spell(rt: HostRuntime) -> Result<(), Fail> {
     for (word, text, wanted) in [
-        (CHECK, FIRST, NOT_YET),
-        (CHECK, COUNTER, NOT_YET),
+        (
+            CHECK,
+            FIRST,
+            (
+                Status::Done,
+                b"functions 1 methods 0 classes 0 positions 5\n".as_slice(),
+                b"".as_slice(),
+            ),
+        ),
+        (
+            CHECK,
+            COUNTER,
+            (
+                Status::Done,
+                b"functions 1 methods 2 classes 1 positions 43\n",
+                b"",
+            ),
+        ),
         (b"analyze".as_slice(), COUNTER, NOT_YET),
         (RUN, COUNTER, NOT_YET),
         (RUN, b".profile 1;", NOT_YET),
-        (RUN, b".profile 1;.function main(){RetC}", NOT_YET),
+        (
+            RUN,
+            b".profile 1;.function main(){RetC}",
+            (Status::BadShape, b"", b"bad shape Underflow main 0\n"),
+        ),
+        (
+            CHECK,
+            b".profile 1;.class A {.method m(){Null PopC}}",
+            (Status::BadShape, b"", b"bad shape FallsOff A::m 1\n"),
+        ),
+        (
+            CHECK,
+            b".profile 1;.function main(){True JmpZ L0 Int 1 L0: Null RetC}",
+            (Status::BadShape, b"", b"bad shape DepthMismatch main 2\n"),
+        ),
+        (
+            CHECK,
+            ITERATOR_LEFT_LIVE,
+            (
+                Status::BadShape,
+                b"",
+                b"bad shape IteratorMismatch main 6\n",
+            ),
+        ),
         (
             RUN,
             b".profile 1;.function main(){String \"a\" RetC}",
@@ -243,9 +286,12 @@ fn texts_are_judged_by_what_they_spell(rt: HostRuntime) -> Result<(), Fail> {
     Ok(())
 }
 
-/// Whether the status is one that `check` gives a text so far.
+/// Whether the status is one that `check` gives a text.
 fn is_of_check(status: Status) -> bool {
-    matches!(status, Status::BadText | Status::BadLink | Status::NotYet)
+    matches!(
+        status,
+        Status::BadText | Status::BadLink | Status::BadShape | Status::Done
+    )
 }
 
 #[test]
@@ -254,7 +300,7 @@ fn each_front_of_a_text_has_its_status(rt: HostRuntime) -> Result<(), Fail> {
     for end in 0..=COUNTER.len() {
         let text = Text::from_bytes(rt.alloc(), &COUNTER[..end])?;
         let mut source = MemSource::new(text, numbers(rt.alloc(), &[])?);
-        let mut out = MemSink::new(rt.alloc(), 0, numbers(rt.alloc(), &[])?)?;
+        let mut out = MemSink::new(rt.alloc(), 64, numbers(rt.alloc(), &[])?)?;
         let mut err = MemSink::new(rt.alloc(), 64, numbers(rt.alloc(), &[])?)?;
         let status = hhbbc(
             rt.alloc(),

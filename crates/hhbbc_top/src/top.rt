@@ -6,14 +6,18 @@ ghost use Rattle.hh_io.specs.Counts.{Rose};
 ghost use Rattle.hh_io.specs.Sources.{IsLonger, IsWithin, ReadsPerByte};
 ghost use Rattle.hh_io.specs.Sinks.{Takes, TakesPart};
 ghost use Rattle.hhas_read.specs.LinkedTexts.{IsReadFault};
+ghost use Rattle.hhbc_repo.specs.Linked.{Linked};
+ghost use Rattle.hhbc_repo.specs.Shapes.{Types};
 ghost use Rattle.hhbc_repo.specs.Truth.{IsNeverStuck};
+ghost use Rattle.stack_verify.specs.Verified.{IsRefused};
 ghost use Rattle.hhbbc_top.specs.Answer as answers;
 ghost use Rattle.hhbbc_top.specs.Commands as commands;
 ghost use Rattle.hhbbc_top.specs.Forms.{repo_of};
 ghost use Rattle.hhbbc_top.specs.Words.{command_of};
 
 use crate::annotation::annotated;
-use crate::fault_lines::{link_fault_line, text_fault_line};
+use crate::counts::counts_line;
+use crate::fault_lines::{link_fault_line, shape_fault_line, text_fault_line};
 use crate::form::{Main, Unfit, main_of};
 use crate::machine::{Ending, run};
 use crate::report::report_of;
@@ -25,6 +29,7 @@ use hack_values::{NoMemory, Text};
 use hh_io::{ReadError, Sink, Source, read_all, write_all};
 use hhas_read::{ReadFault, first_fault_is_one, read_text, text_spells_one_repository};
 use hhbc_repo::{Repo, second_form_never_sticks};
+use stack_verify::{VerifyFault, verify};
 use std::alloc::Global;
 
 /// What is to be written where a command did its work.
@@ -52,6 +57,7 @@ pub fn hhbbc<S: Source, K: Sink, E: Sink>(
     ensures too_long { result ≡ Status.TooLong → IsLonger (S.left source.old) (answers.read_limit (command_of words.now)) }
     ensures bad_text { result ≡ Status.BadText → IsAtEnd (S.left source.new) × IsWithin (S.left source.old) (answers.read_limit (command_of words.now)) × IfSome (S.left source.old) answers.HasTextFault }
     ensures bad_link { result ≡ Status.BadLink → IsAtEnd (S.left source.new) × IsWithin (S.left source.old) (answers.read_limit (command_of words.now)) × IfSome (S.left source.old) answers.HasLinkFault }
+    ensures bad_shape { result ≡ Status.BadShape → IsAtEnd (S.left source.new) × IsWithin (S.left source.old) (answers.read_limit (command_of words.now)) × IfSome (S.left source.old) answers.HasShapeFault }
     ensures not_yet { result ≡ Status.NotYet → IsAtEnd (S.left source.new) × IsWithin (S.left source.old) (answers.read_limit (command_of words.now)) × IfSome (S.left source.old) (answers.IsUnservedText (command_of words.now)) }
     ensures no_memory { result ≡ Status.NoMemory → out.new ≡ out.old }
     ensures write_fault { result ≡ Status.WriteFault → Rose (K.faults out.old) (K.faults out.new) ⊎ Rose (E.faults err.old) (E.faults err.new) }
@@ -122,7 +128,7 @@ fn answer_to(alloc: Global, command: Command, text: &Text) -> Result<Answer, Sta
     second_is_unique();
     text_spells_one_repository();
     match read_text(alloc, text) {
-        Ok(repo) => served(alloc, command, &repo),
+        Ok(repo) => judged(alloc, command, repo),
         Err(fault) => fault_told(alloc, fault),
     }
 }
@@ -150,21 +156,49 @@ fn told(status: Status, line: Result<Text, NoMemory>) -> Result<Answer, Status>
 }
 
 /// What a command makes of the repository of a text.
+fn judged(alloc: Global, command: Command, repo: Repo) -> Result<Answer, Status>
+    ensures { commands.Judges command repo result }
+{
+    match verify(alloc, repo) {
+        Ok(verified) => served(alloc, command, verified.repo()),
+        Err(fault) => shape_told(alloc, fault),
+    }
+}
+
+/// The answer of a text whose repository doesn't keep to its shapes.
+#[tactic(auto, using(crate::proofs::Headline::within_bodies, crate::proofs::Headline::refused_as))]
+fn shape_told(alloc: Global, fault: VerifyFault) -> Result<Answer, Status>
+    requires { (r : Linked) × IsRefused r fault }
+    ensures { (c : Command) (r : Linked) → IsRefused r fault → commands.Judges c r result }
+{
+    match fault {
+        VerifyFault::Shape(shape, repo) => {
+            told(Status::BadShape, shape_fault_line(alloc, &repo, shape))
+        }
+        VerifyFault::NoMemory => Err(Status::NoMemory),
+    }
+}
+
+/// What a command makes of a repository that keeps to its shapes.
 fn served(alloc: Global, command: Command, repo: &Repo) -> Result<Answer, Status>
+    requires { Types repo.now }
     ensures { commands.Serves command repo.now result }
 {
     match command {
-        Command::Check => checked(repo),
+        Command::Check => checked(alloc, repo),
         Command::Analyze => analyzed(alloc, repo),
         Command::Run(steps, asserted) => main_run(alloc, repo, steps, asserted),
     }
 }
 
-/// That a repository keeps to its shapes isn't checked yet.
-fn checked(repo: &Repo) -> Result<Answer, Status>
+/// How much there is in a repository.
+fn checked(alloc: Global, repo: &Repo) -> Result<Answer, Status>
     ensures { commands.Serves Command.Check repo.now result }
 {
-    Err(Status::NotYet)
+    match counts_line(alloc, repo) {
+        Ok(line) => Ok(Answer::Text(line)),
+        Err(NoMemory) => Err(Status::NoMemory),
+    }
 }
 
 /// The status of a repository that isn't gone on with.
@@ -179,6 +213,7 @@ fn status_of(unfit: Unfit) -> Status
 
 /// The annotated text of a repository.
 fn analyzed(alloc: Global, repo: &Repo) -> Result<Answer, Status>
+    requires { Types repo.now }
     ensures { commands.Serves Command.Analyze repo.now result }
 {
     match main_of(alloc, repo) {
@@ -189,6 +224,7 @@ fn analyzed(alloc: Global, repo: &Repo) -> Result<Answer, Status>
 
 /// How the function of a repository runs.
 fn main_run(alloc: Global, repo: &Repo, steps: u32, asserted: bool) -> Result<Answer, Status>
+    requires { Types repo.now }
     ensures { commands.Serves (Command.Run steps asserted) repo.now result }
 {
     second_form_never_sticks();

@@ -10,7 +10,7 @@ use hack_values::Text;
 /// What the program is to do.
 #[derive(Clone, Copy, Debug, PartialEq, Eq)]
 pub enum Command {
-    /// Reads and links the text.
+    /// Reads, links and verifies the text.
     Check,
     /// Annotates the text.
     Analyze,

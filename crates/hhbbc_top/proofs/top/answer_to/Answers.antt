@@ -1,16 +1,16 @@
-use Rattle.hhbbc_top.proofs.Headline.{served-as}
+use Rattle.hhbbc_top.proofs.Headline.{judged-as}
 use Rattle.hhbbc_top.proofs.top.answer_to.Goals as goal
 
 pub returns-in-Ok : goal.returns-in-Ok
 returns-in-Ok c =
-    served-as
+    judged-as
     (record {
       one = c.text_spells_one_repository.ensures;
       annotates = c.bare_chain_annotates.ensures;
       faithful = c.second_is_faithful.ensures;
       unique = c.second_is_unique.ensures;
     })
-    c.args.command c.args.text.now c.in-Ok.repo c.served.result c.in-Ok.ensures.repository c.served.ensures
+    c.args.command c.args.text.now c.in-Ok.repo c.judged.result c.in-Ok.ensures.repository c.judged.ensures
 
 pub returns-in-Err : goal.returns-in-Err
 returns-in-Err c = c.fault_told.ensures c.args.command c.args.text.now c.in-Err.ensures.fault
