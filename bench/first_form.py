@@ -51,7 +51,7 @@ def main():
         ("ran", "run", text, LIMIT // 4, b"", 0),
         ("ran", "run", text, LIMIT, b"", 0),
         ("ran", "run", text, RUN_LIMIT, b"", 0),
-        ("checked", "check", text, RUN_LIMIT, b"", 72),
+        ("checked", "check", text, RUN_LIMIT, b"", 0),
         ("too long", "run", text, RUN_LIMIT + 1, b"", 69),
     ]:
         with tempfile.NamedTemporaryFile() as file:
