@@ -32,8 +32,8 @@ use Rattle.hhbbc_top.specs.declared.status.Status.{Status}
 use Rattle.hhbbc_top.specs.declared.status.Status.TheVariants.{Done, Uncaught, StepsSpent, AssertFalse, Usage, BadText, BadLink, BadShape, TooLong, NoMemory, NotYet, ReadFault, WriteFault}
 use Rattle.hhbbc_top.specs.declared.top.Answer.{Answer}
 use Rattle.hhbbc_top.specs.declared.words.Command.{Command}
-use Rattle.hhbbc_top.specs.declared.words.Command.TheVariants.{Check, Analyze, Run}
-use Rattle.hhbbc_top.specs.Answer.{limit_of, line_of, ran, status_of, out_of, line_to, status_of_answer, out_of_answer, line_of_answer, Accepts, Answers, Expects, HasFirst, HasTextFault, HasLinkFault, HasShapeFault, IsAnswer, IsServed, IsAnnotatedText, IsExpected, IsOrWants, IsOtherText, IsUnserved, Obeys, OfCommand, status_of_unfit, told}
+use Rattle.hhbbc_top.specs.declared.words.Command.TheVariants.{Check, Format, Analyze, Run}
+use Rattle.hhbbc_top.specs.Answer.{limit_of, line_of, ran, verifies, status_of, out_of, line_to, status_of_answer, out_of_answer, line_of_answer, Accepts, Answers, Expects, HasFirst, HasTextFault, HasLinkFault, HasShapeFault, IsAnswer, IsServed, IsAnnotatedText, IsExpected, IsOrWants, IsOtherText, IsUnserved, Obeys, OfCommand, status_of_unfit, told}
 use Rattle.hhbbc_top.specs.Commands.{AnswersTo, Does, Gives, Goes, Judges, Makes, Serves, Stops, TellsFirst}
 use Rattle.hhbbc_top.specs.FaultLines.{ShapeFault, IsFirst, bad_text, bad_link, bad_shape}
 use Rattle.hhbbc_top.specs.Forms.{position_of, bare_of, repo_of, bare_repo_of, annotated_text}
@@ -87,6 +87,7 @@ annotated-text laws bytes r m out a h written =
 answered : Laws → (c : Command) (bytes : List ℕ) (r : Linked) (m : Main) (s : Status) (out line : List ℕ) → ReadsRepository bytes r → IsMainOf r m
     → Makes c m s out line → Answers c bytes s out line
 answered laws Check bytes r m s out line a h k = absurd k
+answered laws Format bytes r m s out line a h k = absurd k
 answered laws Analyze bytes r m s out line a h k = (k.0, annotated-text laws bytes r m out a h k.1, k.2)
 answered laws (Run steps asserted) bytes r m s out line a h k = record {
   repo = repo_of m;
@@ -98,13 +99,23 @@ answered laws (Run steps asserted) bytes r m s out line a h k = record {
 }
 
 -- what a command gives of a repository that keeps to its shapes is what it answers to the text
-given-as : Laws → (c : Command) (bytes : List ℕ) (r : Linked) (a : Answer) → ReadsRepository bytes r → Types r → Gives c r a
+given-as : Laws → (c : Command) (bytes : List ℕ) (r : Linked) (a : Answer) → ReadsRepository bytes r → (verifies c ≡ true → Types r) → Gives c r a
     → Answers c bytes (status_of_answer a) (out_of_answer a) (line_of_answer a)
 given-as laws Check bytes r a w t h = (
   h.status,
   record {
     repo = r;
-    read = record { reads = w; types = t };
+    read = record { reads = w; types = t refl };
+    only = λ other v. one-repository laws.one bytes other r v w;
+    written = h.written;
+  },
+  h.line,
+)
+given-as laws Format bytes r a w t h = (
+  h.status,
+  record {
+    repo = r;
+    reads = w;
     only = λ other v. one-repository laws.one bytes other r v w;
     written = h.written;
   },
@@ -142,6 +153,7 @@ run-ends outcomes.WrongCount s h = absurd h
 
 all-end : (c : Command) (bytes : List ℕ) (s : Status) (out line : List ℕ) → Answers c bytes s out line → ends_well s ≡ true
 all-end Check bytes s out line h = ap ends_well h.0
+all-end Format bytes s out line h = ap ends_well h.0
 all-end Analyze bytes s out line h = ap ends_well h.0
 all-end (Run steps asserted) bytes s out line h = run-ends (ran h.repo steps asserted).outcome s h.status
 
@@ -161,7 +173,7 @@ told-as c bytes ReadFault out line e h = absurd (cc)
 told-as c bytes WriteFault out line e h = absurd (cc)
 
 -- what is answered to a text that was read, and whose repository keeps to its shapes
-served-as : Laws → (c : Command) (bytes : List ℕ) (r : Linked) (o : Result Answer Status) → ReadsRepository bytes r → Types r → Serves c r o
+served-as : Laws → (c : Command) (bytes : List ℕ) (r : Linked) (o : Result Answer Status) → ReadsRepository bytes r → (verifies c ≡ true → Types r) → Serves c r o
     → AnswersTo c bytes (status_of o) (out_of o) (line_to o)
 served-as laws c bytes r (Ok a) w t h =
     let is = given-as laws c bytes r a w t h in
@@ -191,7 +203,7 @@ pub link_told : (c : Command) (bytes : List ℕ) (f : LinkFault) (line : Result 
 link_told c bytes f (Ok line) h e = (f, h, (refl, e))
 link_told c bytes f (Err w) h e = (refl, refl)
 
-pub shape_told : (c : Command) (bytes : List ℕ) (f : ShapeFault) (line : Result (List ℕ) Want) → HasFirst bytes f → IfOk line (λ l. l ≡ bad_shape f)
+pub shape_told : (c : Command) (bytes : List ℕ) (f : ShapeFault) (line : Result (List ℕ) Want) → HasFirst c bytes f → IfOk line (λ l. l ≡ bad_shape f)
     → AnswersTo c bytes (status_of (told BadShape line)) (out_of (told BadShape line)) (line_to (told BadShape line))
 shape_told c bytes f (Ok line) h e = (f, h, (refl, e))
 shape_told c bytes f (Err w) h e = (refl, refl)
@@ -201,18 +213,25 @@ pub judged-as : Laws → (c : Command) (bytes : List ℕ) (r : Linked) (o : Resu
     → AnswersTo c bytes (status_of o) (out_of o) (line_to o)
 judged-as laws c bytes r o w (inl h) = served-as laws c bytes r o w h.0 h.1
 judged-as laws c bytes r o w (inr (inl h)) =
-    subst (λ (p : Result Answer Status). AnswersTo c bytes (status_of p) (out_of p) (line_to p)) (sym h.is)
-    (shape_told c bytes h.fault h.line (record { reads = subst (λ (s : Linked). ReadsRepository bytes s) (sym h.of) w; first = h.first }) h.line_is)
+    subst (λ (p : Result Answer Status). AnswersTo c bytes (status_of p) (out_of p) (line_to p)) (sym h.1.is)
+    (shape_told c bytes h.1.fault h.1.line (record { verified = h.0; reads = subst (λ (s : Linked). ReadsRepository bytes s) (sym h.1.of) w; first = h.1.first }) h.1.line_is)
 judged-as laws c bytes r o w (inr (inr e)) =
     subst (λ (p : Result Answer Status). AnswersTo c bytes (status_of p) (out_of p) (line_to p)) (sym e) (refl, refl)
 
+true-or-false : (b : Bool) → b ≡ true → b ≡ false → ⊥
+true-or-false true t f = absurd (cc)
+true-or-false false t f = absurd (cc)
+
 -- a repository that was verified, or the first of its checks that fails
-pub verified_as : (c : Command) (r v s : Linked) (o : Result Answer Status) → v ≡ r → s ≡ v → Types r → Serves c s o → Judges c r o
+pub verified_as : (c : Command) (r v s : Linked) (o : Result Answer Status) → v ≡ r → s ≡ v → (verifies c ≡ true → Types r) → Serves c s o → Judges c r o
 verified_as c r v s o e g t h = inl (t, subst (λ (x : Linked). Serves c x o) (g ∙ e) h)
 
-pub refused_as : (c : Command) (r back : Linked) (n p : ℕ) (kind : ShapeKind) (line : Result (List ℕ) Want) (o : Result Answer Status) → back ≡ r → IsFirstFault r n p kind
+pub unverified_as : (c : Command) (r : Linked) (o : Result Answer Status) → verifies c ≡ false → Serves c r o → Judges c r o
+unverified_as c r o e h = inl (λ v. absurd (true-or-false (verifies c) v e), h)
+
+pub refused_as : (c : Command) (r back : Linked) (n p : ℕ) (kind : ShapeKind) (line : Result (List ℕ) Want) (o : Result Answer Status) → verifies c ≡ true → back ≡ r → IsFirstFault r n p kind
     → IfOk line (λ l. l ≡ bad_shape (record { repo = back; body = n; position = p; kind = kind })) → o ≡ told BadShape line → Judges c r o
-refused_as c r back n p kind line o e h l is = inr (inl (record {
+refused_as c r back n p kind line o v e h l is = inr (inl (v, record {
   fault = record { repo = back; body = n; position = p; kind = kind };
   of = e;
   first = subst (λ (x : Linked). IsFirstFault x n p kind) (sym e) h;
@@ -232,6 +251,7 @@ left-as c r unfits.NoMemory h = tt
 -- a command goes on with the function that is all of a repository, or stops
 pub goes-with : (c : Command) (r : Linked) (m : Main) (o : Result Answer Status) → IsMainOf r m → Does c m o → Serves c r o
 goes-with Check r m (Ok a) h k = absurd k
+goes-with Format r m (Ok a) h k = absurd k
 goes-with Analyze r m (Ok a) h k = record { main = m; is = h; makes = k }
 goes-with (Run steps asserted) r m (Ok a) h k = record { main = m; is = h; makes = k }
 goes-with c r m (Err s) h k = subst (λ (t : Status). Serves c r (Err t)) (sym k) tt
@@ -264,7 +284,7 @@ obeyed c left rest before now bytes BadText out line h e w f a =
 obeyed c left rest before now bytes BadLink out line h e w f a =
     (a.0, record { ended = e; within = w; found = all-told left rest bytes (λ b. LinksWithFault b a.0) h e a.1; faults = f }, a.2)
 obeyed c left rest before now bytes BadShape out line h e w f a =
-    (a.0, record { ended = e; within = w; found = all-told left rest bytes (λ b. HasFirst b a.0) h e a.1; faults = f }, a.2)
+    (a.0, record { ended = e; within = w; found = all-told left rest bytes (λ b. HasFirst c b a.0) h e a.1; faults = f }, a.2)
 obeyed c left rest before now bytes TooLong out line h e w f a = absurd a
 obeyed c left rest before now bytes NoMemory out line h e w f a = (f, a)
 obeyed c left rest before now bytes NotYet out line h e w f a = (record { ended = e; within = w; found = all-told left rest bytes (IsOtherText c) h e a.0; faults = f }, a.1)
@@ -297,33 +317,38 @@ no-form bytes r repo e u w = subst (λ (x : Linked). IsSecondForm x → ⊥) e u
 module _ (one : SpellsOne) (spelled : SpelledIsFaultless) (c : Command) (bytes : List ℕ) where
   ends-as : (repo : Linked) (s : Status) (out line : List ℕ) → (d : Command) → Answers d bytes s out line → IsServed d bytes repo → IsExpected d repo s
   ends-as repo s out line Check h w = h.0
+  ends-as repo s out line Format h w = h.0
   ends-as repo s out line Analyze h w = h.0
   ends-as repo s out line (Run steps asserted) h w =
       subst (λ (r : Linked). HasStatus (ran r steps asserted).outcome s) (sym (h.only repo w)) h.status
 
   -- what was gone on with keeps to its shapes, and isn't left
-  form-of : (d : Command) (s : Status) (out line : List ℕ) → Answers d bytes s out line → (r : Linked) × ReadsRepository bytes r × Types r × (IsUnserved d r → ⊥)
-  form-of Check s out line h = (h.1.repo, h.1.read.reads, h.1.read.types, λ u. u)
-  form-of Analyze s out line h = (h.1.repo, h.1.read.reads, h.1.read.types, λ u. u.other h.1.read.form)
-  form-of (Run steps asserted) s out line h = (h.repo, h.read.reads, h.read.types, λ u. u.other h.read.form)
+  form-of : (d : Command) (s : Status) (out line : List ℕ) → Answers d bytes s out line → (r : Linked) × ReadsRepository bytes r × (verifies d ≡ true → Types r) × (IsUnserved d r → ⊥)
+  form-of Check s out line h = (h.1.repo, h.1.read.reads, λ v. h.1.read.types, λ u. u)
+  form-of Format s out line h = (h.1.repo, h.1.reads, λ v. absurd (cc), λ u. u)
+  form-of Analyze s out line h = (h.1.repo, h.1.read.reads, λ v. h.1.read.types, λ u. u.other h.1.read.form)
+  form-of (Run steps asserted) s out line h = (h.repo, h.read.reads, λ v. h.read.types, λ u. u.other h.read.form)
 
   reads-of : (d : Command) (r : Linked) → IsServed d bytes r → ReadsRepository bytes r
   reads-of Check r w = w.reads
+  reads-of Format r w = w
   reads-of Analyze r w = w.reads
   reads-of (Run steps asserted) r w = w.reads
 
-  types-of : (d : Command) (r : Linked) → IsServed d bytes r → Types r
-  types-of Check r w = w.types
-  types-of Analyze r w = w.types
-  types-of (Run steps asserted) r w = w.types
+  types-of : (d : Command) (r : Linked) → IsServed d bytes r → verifies d ≡ true → Types r
+  types-of Check r w v = w.types
+  types-of Format r w v = absurd (cc)
+  types-of Analyze r w v = w.types
+  types-of (Run steps asserted) r w v = w.types
 
   types-left : (d : Command) (r : Linked) → IsUnserved d r → Types r
   types-left Check r u = absurd u
+  types-left Format r u = absurd u
   types-left Analyze r u = u.types
   types-left (Run steps asserted) r u = u.types
 
-  no-shape : (r : Linked) → ReadsRepository bytes r → Types r → HasShapeFault bytes → ⊥
-  no-shape r a t h = types-or-not h.0 (subst Types (one-repository one bytes r h.0.repo a h.1.reads) t) h.1.first
+  no-shape : (r : Linked) → ReadsRepository bytes r → (verifies c ≡ true → Types r) → HasShapeFault c bytes → ⊥
+  no-shape r a t h = types-or-not h.0 (subst Types (one-repository one bytes r h.0.repo a h.1.reads) (t h.1.verified)) h.1.first
 
   left-alone : (d : Command) (r other : Linked) → (IsUnserved d r → ⊥) → ReadsRepository bytes r → ReadsRepository bytes other → IsUnserved d other → ⊥
   left-alone d r other kept a b u = kept (subst (λ (x : Linked). IsUnserved d x) (one-repository one bytes other r b a) u)
@@ -356,17 +381,18 @@ module _ (one : SpellsOne) (spelled : SpelledIsFaultless) (c : Command) (bytes :
     done = λ repo w. absurd (links-or-not one bytes repo f (reads-of c repo w) h);
   }
 
-  shape-fault-as : (f : ShapeFault) → HasFirst bytes f → Expects c bytes BadShape
+  shape-fault-as : (f : ShapeFault) → HasFirst c bytes f → Expects c bytes BadShape
   shape-fault-as f h = record {
     bad_text = λ t. absurd (read-or-not spelled bytes f.repo t.0 h.reads t.1);
     bad_link = λ t. absurd (links-or-not one bytes f.repo t.0 h.reads t.1);
     bad_shape = λ t. inl refl;
-    not_yet = λ t. absurd (no-shape t.repo t.reads (types-left c t.repo t.unserved) (f, h));
+    not_yet = λ t. absurd (no-shape t.repo t.reads (λ v. types-left c t.repo t.unserved) (f, h));
     done = λ repo w. absurd (no-shape repo (reads-of c repo w) (types-of c repo w) (f, h));
   }
 
   served-or-not : (d : Command) (r repo : Linked) → ReadsRepository bytes r → IsUnserved d r → IsServed d bytes repo → ⊥
   served-or-not Check r repo a u w = u
+  served-or-not Format r repo a u w = u
   served-or-not Analyze r repo a u w = no-form bytes r repo (one-repository one bytes r repo a w.reads) u.other w
   served-or-not (Run steps asserted) r repo a u w = no-form bytes r repo (one-repository one bytes r repo a w.reads) u.other w
 
@@ -374,7 +400,7 @@ module _ (one : SpellsOne) (spelled : SpelledIsFaultless) (c : Command) (bytes :
   other-as h = record {
     bad_text = λ t. absurd (read-or-not spelled bytes h.repo t.0 h.reads t.1);
     bad_link = λ t. absurd (links-or-not one bytes h.repo t.0 h.reads t.1);
-    bad_shape = λ t. absurd (no-shape h.repo h.reads (types-left c h.repo h.unserved) t);
+    bad_shape = λ t. absurd (no-shape h.repo h.reads (λ v. types-left c h.repo h.unserved) t);
     not_yet = λ t. inl refl;
     done = λ repo w. absurd (served-or-not c h.repo repo h.reads h.unserved w);
   }
@@ -388,7 +414,7 @@ module _ (one : SpellsOne) (spelled : SpelledIsFaultless) (c : Command) (bytes :
   accepted left rest before now Usage out line a e l = absurd a
   accepted left rest before now BadText out line a e l = text-fault-as a.0 (both left bytes (λ b. FirstFault b a.0) e a.1.found)
   accepted left rest before now BadLink out line a e l = link-fault-as a.0 (both left bytes (λ b. LinksWithFault b a.0) e a.1.found)
-  accepted left rest before now BadShape out line a e l = shape-fault-as a.0 (both left bytes (λ b. HasFirst b a.0) e a.1.found)
+  accepted left rest before now BadShape out line a e l = shape-fault-as a.0 (both left bytes (λ b. HasFirst c b a.0) e a.1.found)
   accepted left rest before now TooLong out line a e l =
       let longer : limit_of c < length bytes = both left bytes (λ b. limit_of c < length b) e a.0 in absurd (omega (arith, longer, l))
   accepted left rest before now NoMemory out line a e l = wants-as c bytes NoMemory (inl refl)

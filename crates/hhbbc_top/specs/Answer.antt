@@ -1,5 +1,5 @@
 -- What each status says, and when it comes.
-use Rattle.std.specs.Prelude.{◌≡◌, ◌⊎◌, ◌≤◌, ℕ, Bool, List, [], Option, Some, None, Result, Ok, Err, IfSome, length, codes}
+use Rattle.std.specs.Prelude.{◌≡◌, ◌⊎◌, ◌≤◌, ℕ, Bool, true, false, List, [], Option, Some, None, Result, Ok, Err, IfSome, length, codes}
 use Rattle.std.specs.Io.KnownBytes.{IsAtEnd}
 use Rattle.hack_values.specs.declared.memory.NoMemory.{NoMemory as Want}
 use Rattle.hh_io.specs.Counts.{Rose}
@@ -7,6 +7,7 @@ use Rattle.hh_io.specs.Sources.{IsLonger, IsWithin}
 use Rattle.hh_io.specs.Sinks.{Takes, TakesPart}
 use Rattle.hhbc_repo.specs.declared.link_fault.LinkFault.{LinkFault}
 use Rattle.hhbc_repo.specs.Linked.{Linked}
+use Rattle.hhbc_repo.specs.CanonicalText.{canonical_text}
 use Rattle.hhbc_repo.specs.Form.{IsSecondForm}
 use Rattle.hhbc_repo.specs.Shapes.{Types}
 use Rattle.hhbc_repo.specs.TextSyntax.{FirstFault}
@@ -20,7 +21,7 @@ use Rattle.hhbbc_top.specs.declared.status.Status.TheVariants.{Done, Uncaught, S
 use Rattle.hhbbc_top.specs.declared.form.Unfit.{Unfit}
 use Rattle.hhbbc_top.specs.declared.form.Unfit.TheVariants as unfits
 use Rattle.hhbbc_top.specs.declared.words.Command.{Command}
-use Rattle.hhbbc_top.specs.declared.words.Command.TheVariants.{Check, Analyze, Run}
+use Rattle.hhbbc_top.specs.declared.words.Command.TheVariants.{Check, Format, Analyze, Run}
 use Rattle.hhbbc_top.specs.declared.top.Answer.{Answer}
 use Rattle.hhbbc_top.specs.declared.top.Answer.TheVariants as answers
 use Rattle.hhbbc_top.specs.Counts.{counts_line}
@@ -64,8 +65,16 @@ line_of WriteFault = []
 -- the longest text that a command takes
 abbrev pub limit_of : Command → ℕ
 limit_of Check = 134217728
+limit_of Format = 134217728
 limit_of Analyze = 16777216
 limit_of (Run steps asserted) = 134217728
+
+-- whether a command asks that the repository keeps to its shapes
+abbrev pub verifies : Command → Bool
+verifies Check = true
+verifies Format = false
+verifies Analyze = true
+verifies (Run steps asserted) = true
 
 -- the bytes that are read for these words at most
 abbrev pub read_limit : Option Command → ℕ
@@ -114,9 +123,17 @@ pub record IsCheckedText (bytes out : List ℕ) : Type 0 where
   pub only : (other : Linked) → ReadsRepository bytes other → other ≡ repo
   pub written : out ≡ counts_line repo
 
+-- the canonical text of the repository of the text
+pub record IsFormattedText (bytes out : List ℕ) : Type 0 where
+  pub repo : Linked
+  pub reads : ReadsRepository bytes repo
+  pub only : (other : Linked) → ReadsRepository bytes other → other ≡ repo
+  pub written : out ≡ canonical_text repo
+
 -- what a command answers to a text whose repository it goes on with
 abbrev pub Answers : Command → List ℕ → Status → List ℕ → List ℕ → Type 0
 Answers Check bytes s out line = (s ≡ Done) × IsCheckedText bytes out × (line ≡ [])
+Answers Format bytes s out line = (s ≡ Done) × IsFormattedText bytes out × (line ≡ [])
 Answers Analyze bytes s out line = (s ≡ Done) × IsAnnotatedText bytes out × (line ≡ [])
 Answers (Run steps asserted) bytes s out line = IsRunText bytes steps asserted s out line
 
@@ -128,6 +145,7 @@ pub record IsOfOtherForm (r : Linked) : Type 0 where
 -- a repository that a command does no more with yet
 abbrev pub IsUnserved : Command → Linked → Type 0
 IsUnserved Check r = ⊥
+IsUnserved Format r = ⊥
 IsUnserved Analyze r = IsOfOtherForm r
 IsUnserved (Run steps asserted) r = IsOfOtherForm r
 
@@ -137,8 +155,9 @@ pub record IsOtherText (c : Command) (bytes : List ℕ) : Type 0 where
   pub reads : ReadsRepository bytes repo
   pub unserved : IsUnserved c repo
 
--- the text links, and this is the first check of its repository that fails
-pub record HasFirst (bytes : List ℕ) (f : ShapeFault) : Type 0 where
+-- the text links, and this is the first check of its repository that fails, for a command that verifies it
+pub record HasFirst (c : Command) (bytes : List ℕ) (f : ShapeFault) : Type 0 where
+  pub verified : verifies c ≡ true
   pub reads : ReadsRepository bytes f.repo
   pub first : IsFirst f
 
@@ -173,7 +192,7 @@ Obeys c left rest before now AssertFalse out line = Ends c left rest before now 
 Obeys c left rest before now Usage out line = ⊥
 Obeys c left rest before now BadText out line = (at : ℕ) × Ends c left rest before now (λ bytes. FirstFault bytes at) × SaysPlace at out line
 Obeys c left rest before now BadLink out line = (f : LinkFault) × Ends c left rest before now (λ bytes. LinksWithFault bytes f) × SaysFault f out line
-Obeys c left rest before now BadShape out line = (f : ShapeFault) × Ends c left rest before now (λ bytes. HasFirst bytes f) × SaysShape f out line
+Obeys c left rest before now BadShape out line = (f : ShapeFault) × Ends c left rest before now (λ bytes. HasFirst c bytes f) × SaysShape f out line
 Obeys c left rest before now TooLong out line = IsLonger left (limit_of c) × (now ≡ before) × Says TooLong out line
 Obeys c left rest before now NoMemory out line = (now ≡ before) × Says NoMemory out line
 Obeys c left rest before now NotYet out line = Ends c left rest before now (IsOtherText c) × Says NotYet out line
@@ -245,8 +264,12 @@ HasTextFault bytes = (at : ℕ) × FirstFault bytes at
 abbrev pub HasLinkFault : List ℕ → Type 0
 HasLinkFault bytes = (f : LinkFault) × LinksWithFault bytes f
 
-abbrev pub HasShapeFault : List ℕ → Type 0
-HasShapeFault bytes = (f : ShapeFault) × HasFirst bytes f
+abbrev pub HasShapeFault : Command → List ℕ → Type 0
+HasShapeFault c bytes = (f : ShapeFault) × HasFirst c bytes f
+
+abbrev pub IsMisshapenText : Option Command → List ℕ → Type 0
+IsMisshapenText None bytes = ⊥
+IsMisshapenText (Some c) bytes = HasShapeFault c bytes
 
 abbrev pub IsUnservedText : Option Command → List ℕ → Type 0
 IsUnservedText None bytes = ⊥
@@ -255,12 +278,14 @@ IsUnservedText (Some c) bytes = IsOtherText c bytes
 -- the text's repository is one that a command goes on with
 abbrev pub IsServed : Command → List ℕ → Linked → Type 0
 IsServed Check bytes repo = IsTypedText bytes repo
+IsServed Format bytes repo = ReadsRepository bytes repo
 IsServed Analyze bytes repo = IsReadText bytes repo
 IsServed (Run steps asserted) bytes repo = IsReadText bytes repo
 
 -- the status that such a text has
 abbrev pub IsExpected : Command → Linked → Status → Type 0
 IsExpected Check repo s = s ≡ Done
+IsExpected Format repo s = s ≡ Done
 IsExpected Analyze repo s = s ≡ Done
 IsExpected (Run steps asserted) repo s = HasStatus (ran repo steps asserted).outcome s
 
@@ -272,7 +297,7 @@ IsOrWants P s = P ⊎ ((s ≡ NoMemory) ⊎ ((s ≡ ReadFault) ⊎ (s ≡ WriteF
 pub record Expects (c : Command) (bytes : List ℕ) (s : Status) : Type 0 where
   pub bad_text : HasTextFault bytes → IsOrWants (s ≡ BadText) s
   pub bad_link : HasLinkFault bytes → IsOrWants (s ≡ BadLink) s
-  pub bad_shape : HasShapeFault bytes → IsOrWants (s ≡ BadShape) s
+  pub bad_shape : HasShapeFault c bytes → IsOrWants (s ≡ BadShape) s
   pub not_yet : IsOtherText c bytes → IsOrWants (s ≡ NotYet) s
   pub done : (repo : Linked) → IsServed c bytes repo → IsOrWants (IsExpected c repo s) s
 

@@ -4,7 +4,7 @@ use Rattle.std.specs.List.{list_all}
 use Rattle.std.specs.Cmp.Lexicographic.{pointwise}
 use Rattle.hhas_lex.specs.Bytes.{is_between, is_digit, number_from}
 use Rattle.hhbbc_top.specs.declared.words.Command.{Command}
-use Rattle.hhbbc_top.specs.declared.words.Command.TheVariants.{Check, Analyze, Run}
+use Rattle.hhbbc_top.specs.declared.words.Command.TheVariants.{Check, Format, Analyze, Run}
 
 -- digits, the first of which isn't 0
 abbrev pub is_numeral : List ℕ → Bool
@@ -49,5 +49,6 @@ command_of [] = None
 command_of (word ∷ more) =
     if pointwise nat_eq word (codes "analyze") then alone Analyze more
     else if pointwise nat_eq word (codes "check") then alone Check more
+    else if pointwise nat_eq word (codes "fmt") then alone Format more
     else if pointwise nat_eq word (codes "run") then options_in more
     else None

@@ -29,6 +29,11 @@ const RUN: &[u8] = b"run";
 
 const CHECK: &[u8] = b"check";
 
+const FORMAT: &[u8] = b"fmt";
+
+const FORMATTED: &[u8] =
+    b".profile 1;\n.function main() {\n  Jmp L0\n  L0:\n  String \"A\\n\"\n  RetC\n}\n";
+
 /// Classes, a loop over a dict, and nested try bodies.
 const COUNTER: &[u8] =
     b".profile 1;\n.function main() {\n  .declvars $c, $k, $n;\n  .numiters 1;\n  NewObjD Counter\n  Dup\n  NullUninit\n  FCallCtor 0\n  PopC\n  LockObj\n  PopL $c\n  CGetL $c\n  NullUninit\n  String \"a\"\n  FCallObjMethodD 1 add\n  PopC\n  CGetL $c\n  NullUninit\n  String \"b\"\n  FCallObjMethodD 1 add\n  PopC\n  .try {\n    BaseL $c\n    QueryM 0 CGet PT:counts\n    IterInit 0 K:$k V:$n L1\n    .try {\n      L0:\n      CGetL $k\n      Print\n      PopC\n      CGetL $n\n      Print\n      PopC\n      IterNext 0 K:$k V:$n L0\n      Jmp L1\n    } .catch {\n      IterFree 0\n      Throw\n    }\n  } .catch {\n    PopC\n  }\n  L1:\n  Null\n  RetC\n}\n.class Counter {\n  .property counts = Dict;\n  .method __construct() {\n    Null\n    RetC\n  }\n  .method add($k) {\n    VerifyParamType $k Str\n    BaseH\n    Dim PT:counts\n    QueryM 0 CGetQuiet EL:$k\n    IsTypeC Null\n    JmpZ L0\n    Int 0\n    BaseH\n    Dim PT:counts\n    SetM 0 EL:$k\n    PopC\n    L0:\n    BaseH\n    Dim PT:counts\n    IncDecM 0 PreInc EL:$k\n    RetC\n  }\n}\n";
@@ -245,6 +250,20 @@ fn texts_are_judged_by_what_they_spell(rt: HostRuntime) -> Result<(), Fail> {
             b".profile 1;.function main(){.numiters 0;L: Null RetC} # a comment",
             (Status::Done, b"", b"returned null\n"),
         ),
+        (
+            FORMAT,
+            b".profile 1; .function main(){Jmp end end: String \"\\x41\\x0a\" RetC}",
+            (Status::Done, FORMATTED, b""),
+        ),
+        (
+            FORMAT,
+            b".profile 1;.function main(){RetC}",
+            (
+                Status::Done,
+                b".profile 1;\n.function main() {\n  RetC\n}\n",
+                b"",
+            ),
+        ),
         (CHECK, b"", (Status::BadText, b"", b"bad text at 0\n")),
         (
             RUN,
@@ -397,6 +416,7 @@ fn other_words_are_usage(rt: HostRuntime) -> Result<(), Fail> {
         &[RUN, RUN],
         &[b"analyze", ASSERTS],
         &[CHECK, ASSERTS],
+        &[FORMAT, CHECK],
         &[b"Run"],
     ] {
         expect(

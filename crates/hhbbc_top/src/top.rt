@@ -1,6 +1,6 @@
 //! The top call: words and bytes in, a status and bytes out.
 
-ghost use Rattle.std.specs.Prelude.{◌≡◌, ◌≢◌, ◌⊎◌, ◌≤◌, ◌<◌, ◌+◌, ◌^◌, ℕ, List, [], Ok, Err, None, IfSome, IfOk, MatchResult, OnOk, length};
+ghost use Rattle.std.specs.Prelude.{◌≡◌, ◌≢◌, ◌⊎◌, ◌≤◌, ◌<◌, ◌+◌, ◌^◌, ℕ, true, List, [], Ok, Err, None, IfSome, IfOk, MatchResult, OnOk, length};
 ghost use Rattle.std.specs.Io.KnownBytes.{IsAtEnd};
 ghost use Rattle.hh_io.specs.Counts.{Rose};
 ghost use Rattle.hh_io.specs.Sources.{IsLonger, IsWithin, ReadsPerByte};
@@ -28,6 +28,7 @@ use func_analyze::{bare_chain_annotates, second_is_faithful, second_is_unique};
 use hack_values::{NoMemory, Text};
 use hh_io::{ReadError, Sink, Source, read_all, write_all};
 use hhas_read::{ReadFault, first_fault_is_one, read_text, text_spells_one_repository};
+use hhas_write::write_text;
 use hhbc_repo::{Repo, second_form_never_sticks};
 use stack_verify::{VerifyFault, verify};
 use std::alloc::Global;
@@ -57,7 +58,7 @@ pub fn hhbbc<S: Source, K: Sink, E: Sink>(
     ensures too_long { result ≡ Status.TooLong → IsLonger (S.left source.old) (answers.read_limit (command_of words.now)) }
     ensures bad_text { result ≡ Status.BadText → IsAtEnd (S.left source.new) × IsWithin (S.left source.old) (answers.read_limit (command_of words.now)) × IfSome (S.left source.old) answers.HasTextFault }
     ensures bad_link { result ≡ Status.BadLink → IsAtEnd (S.left source.new) × IsWithin (S.left source.old) (answers.read_limit (command_of words.now)) × IfSome (S.left source.old) answers.HasLinkFault }
-    ensures bad_shape { result ≡ Status.BadShape → IsAtEnd (S.left source.new) × IsWithin (S.left source.old) (answers.read_limit (command_of words.now)) × IfSome (S.left source.old) answers.HasShapeFault }
+    ensures bad_shape { result ≡ Status.BadShape → IsAtEnd (S.left source.new) × IsWithin (S.left source.old) (answers.read_limit (command_of words.now)) × IfSome (S.left source.old) (answers.IsMisshapenText (command_of words.now)) }
     ensures not_yet { result ≡ Status.NotYet → IsAtEnd (S.left source.new) × IsWithin (S.left source.old) (answers.read_limit (command_of words.now)) × IfSome (S.left source.old) (answers.IsUnservedText (command_of words.now)) }
     ensures no_memory { result ≡ Status.NoMemory → out.new ≡ out.old }
     ensures write_fault { result ≡ Status.WriteFault → Rose (K.faults out.old) (K.faults out.new) ⊎ Rose (E.faults err.old) (E.faults err.new) }
@@ -97,7 +98,7 @@ fn limit_of(command: Command) -> u32
     ensures { result ≡ answers.limit_of command }
 {
     match command {
-        Command::Check => 134_217_728,
+        Command::Check | Command::Format => 134_217_728,
         Command::Analyze => 16_777_216,
         Command::Run(_, _) => 134_217_728,
     }
@@ -155,8 +156,28 @@ fn told(status: Status, line: Result<Text, NoMemory>) -> Result<Answer, Status>
     }
 }
 
+/// Whether a command asks that the repository keeps to its shapes.
+fn verifies(command: Command) -> bool
+    ensures { result ≡ answers.verifies command }
+{
+    !matches!(command, Command::Format)
+}
+
 /// What a command makes of the repository of a text.
+#[tactic(auto, using(crate::proofs::Headline::unverified_as))]
 fn judged(alloc: Global, command: Command, repo: Repo) -> Result<Answer, Status>
+    ensures { commands.Judges command repo result }
+{
+    if verifies(command) {
+        verified(alloc, command, repo)
+    } else {
+        served(alloc, command, &repo)
+    }
+}
+
+/// The same, of a command that verifies it.
+fn verified(alloc: Global, command: Command, repo: Repo) -> Result<Answer, Status>
+    requires { answers.verifies command ≡ true }
     ensures { commands.Judges command repo result }
 {
     match verify(alloc, repo) {
@@ -169,7 +190,7 @@ fn judged(alloc: Global, command: Command, repo: Repo) -> Result<Answer, Status>
 #[tactic(auto, using(crate::proofs::Headline::within_bodies, crate::proofs::Headline::refused_as))]
 fn shape_told(alloc: Global, fault: VerifyFault) -> Result<Answer, Status>
     requires { (r : Linked) × IsRefused r fault }
-    ensures { (c : Command) (r : Linked) → IsRefused r fault → commands.Judges c r result }
+    ensures { (c : Command) (r : Linked) → answers.verifies c ≡ true → IsRefused r fault → commands.Judges c r result }
 {
     match fault {
         VerifyFault::Shape(shape, repo) => {
@@ -179,13 +200,14 @@ fn shape_told(alloc: Global, fault: VerifyFault) -> Result<Answer, Status>
     }
 }
 
-/// What a command makes of a repository that keeps to its shapes.
+/// What a command makes of a repository, which keeps to its shapes where the command asks that.
 fn served(alloc: Global, command: Command, repo: &Repo) -> Result<Answer, Status>
-    requires { Types repo.now }
+    requires { answers.verifies command ≡ true → Types repo.now }
     ensures { commands.Serves command repo.now result }
 {
     match command {
         Command::Check => checked(alloc, repo),
+        Command::Format => formatted(alloc, repo),
         Command::Analyze => analyzed(alloc, repo),
         Command::Run(steps, asserted) => main_run(alloc, repo, steps, asserted),
     }
@@ -197,6 +219,16 @@ fn checked(alloc: Global, repo: &Repo) -> Result<Answer, Status>
 {
     match counts_line(alloc, repo) {
         Ok(line) => Ok(Answer::Text(line)),
+        Err(NoMemory) => Err(Status::NoMemory),
+    }
+}
+
+/// A repository in the canonical form.
+fn formatted(alloc: Global, repo: &Repo) -> Result<Answer, Status>
+    ensures { commands.Serves Command.Format repo.now result }
+{
+    match write_text(alloc, repo) {
+        Ok(text) => Ok(Answer::Text(text)),
         Err(NoMemory) => Err(Status::NoMemory),
     }
 }

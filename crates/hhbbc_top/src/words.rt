@@ -12,6 +12,8 @@ use hack_values::Text;
 pub enum Command {
     /// Reads, links and verifies the text.
     Check,
+    /// Reads and links the text, and writes it in the canonical form.
+    Format,
     /// Annotates the text.
     Analyze,
     /// Runs the text's `main` with at most so many steps, and with its assertions tested or not.
@@ -132,6 +134,8 @@ pub fn command_of(all: &[Text]) -> Option<Command>
         alone(Command::Analyze, rest)
     } else if word.bytes() == b"check".as_slice() {
         alone(Command::Check, rest)
+    } else if word.bytes() == b"fmt".as_slice() {
+        alone(Command::Format, rest)
     } else if word.bytes() == b"run".as_slice() {
         options(rest)
     } else {
