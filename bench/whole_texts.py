@@ -73,6 +73,8 @@ def cases():
     """Names of texts, their commands, their parts, and the statuses that are wanted."""
     for size in (1, 4, 16):
         yield f"codes, {size} MiB", "check", codes_of(size * MIB), (0,)
+    for size in (1, 4, 16):
+        yield f"codes, {size} MiB", "fmt", codes_of(size * MIB), (0,)
     for count in (16_384, 65_535):
         yield f"{count:,} functions", "check", calls_of(count), (0,)
     for depth in (150_000, 600_000):
