@@ -231,14 +231,17 @@ unverified_as c r o e h = inl (λ v. absurd (true-or-false (verifies c) v e), h)
 
 pub refused_as : (c : Command) (r back : Linked) (n p : ℕ) (kind : ShapeKind) (line : Result (List ℕ) Want) (o : Result Answer Status) → verifies c ≡ true → back ≡ r → IsFirstFault r n p kind
     → IfOk line (λ l. l ≡ bad_shape (record { repo = back; body = n; position = p; kind = kind })) → o ≡ told BadShape line → Judges c r o
-refused_as c r back n p kind line o v e h l is = inr (inl (v, record {
-  fault = record { repo = back; body = n; position = p; kind = kind };
-  of = e;
-  first = subst (λ (x : Linked). IsFirstFault x n p kind) (sym e) h;
-  line = line;
-  line_is = l;
-  is = is;
-}))
+refused_as c r back n p kind line o v e h l is = inr (inl (
+  v,
+  record {
+    fault = record { repo = back; body = n; position = p; kind = kind };
+    of = e;
+    first = subst (λ (x : Linked). IsFirstFault x n p kind) (sym e) h;
+    line = line;
+    line_is = l;
+    is = is;
+  },
+))
 
 pub within_bodies : (r back : Linked) (n p : ℕ) (kind : ShapeKind) → back ≡ r → IsFirstFault r n p kind → n < length (bodies back)
 within_bodies r back n p kind e h = subst (λ (x : Linked). n < length (bodies x)) (sym e) (slice_get_within (bodies r) n h.body h.at)

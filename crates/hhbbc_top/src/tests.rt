@@ -1,9 +1,6 @@
-use crate::annotation::annotated;
-use crate::form::main_of;
 use crate::{Status, hhbbc};
 use hack_values::{Seq, Text};
 use hh_io::{MemSink, MemSource};
-use hhas_read::read_text;
 use std::alloc::Global;
 use std::process::Abort;
 use std::test::Fail;
@@ -187,120 +184,123 @@ fn early_answers(rt: HostRuntime) -> Result<(), Fail> {
 /// A text behind whose codes nothing is done yet.
 const NOT_YET: (Status, &[u8], &[u8]) = (Status::NotYet, b"", b"not yet\n");
 
+/// Words of commands and texts, with the status and the bytes of the answer.
+const JUDGED: &[(&[u8], &[u8], (Status, &[u8], &[u8]))] = &[
+    (
+        CHECK,
+        FIRST,
+        (
+            Status::Done,
+            b"functions 1 methods 0 classes 0 positions 5\n",
+            b"",
+        ),
+    ),
+    (
+        CHECK,
+        COUNTER,
+        (
+            Status::Done,
+            b"functions 1 methods 2 classes 1 positions 43\n",
+            b"",
+        ),
+    ),
+    (b"analyze", COUNTER, NOT_YET),
+    (RUN, COUNTER, NOT_YET),
+    (RUN, b".profile 1;", NOT_YET),
+    (
+        RUN,
+        b".profile 1;.function main(){RetC}",
+        (Status::BadShape, b"", b"bad shape Underflow main 0\n"),
+    ),
+    (
+        CHECK,
+        b".profile 1;.class A {.method m(){Null PopC}}",
+        (Status::BadShape, b"", b"bad shape FallsOff A::m 1\n"),
+    ),
+    (
+        CHECK,
+        b".profile 1;.function main(){True JmpZ L0 Int 1 L0: Null RetC}",
+        (Status::BadShape, b"", b"bad shape DepthMismatch main 2\n"),
+    ),
+    (
+        CHECK,
+        ITERATOR_LEFT_LIVE,
+        (
+            Status::BadShape,
+            b"",
+            b"bad shape IteratorMismatch main 6\n",
+        ),
+    ),
+    (
+        RUN,
+        b".profile 1;.function main(){String \"a\" RetC}",
+        NOT_YET,
+    ),
+    (
+        RUN,
+        b".profile 1;.function main() .returns Int|Str {Null RetC}",
+        NOT_YET,
+    ),
+    (
+        RUN,
+        b".profile 1;.function main(){.numiters 0;L: Null RetC} # a comment",
+        (Status::Done, b"", b"returned null\n"),
+    ),
+    (
+        FORMAT,
+        b".profile 1; .function main(){Jmp end end: String \"\\x41\\x0a\" RetC}",
+        (Status::Done, FORMATTED, b""),
+    ),
+    (
+        FORMAT,
+        b".profile 1;.function main(){RetC}",
+        (
+            Status::Done,
+            b".profile 1;\n.function main() {\n  RetC\n}\n",
+            b"",
+        ),
+    ),
+    (CHECK, b"", (Status::BadText, b"", b"bad text at 0\n")),
+    (
+        RUN,
+        b".profile 2;",
+        (Status::BadText, b"", b"bad text at 9\n"),
+    ),
+    (
+        CHECK,
+        b".profile 1;\n.function main() {\n  String \"ab",
+        (Status::BadText, b"", b"bad text at 40\n"),
+    ),
+    (
+        CHECK,
+        b".profile 1;\n.function main() {\n  Int 9223372036854775808",
+        (Status::BadText, b"", b"bad text at 37\n"),
+    ),
+    (
+        CHECK,
+        b".profile 1;.class A extends B { }.class B extends A { }",
+        (Status::BadLink, b"", b"bad link ClassCycle A A\n"),
+    ),
+    (
+        CHECK,
+        b".profile 1;.function main(){CGetL $x RetC}",
+        (Status::BadLink, b"", b"bad link UnknownName main $x\n"),
+    ),
+    (
+        CHECK,
+        b".profile 1;.function main(){.numiters 33;Null RetC}",
+        (
+            Status::BadLink,
+            b"",
+            b"bad link OverLimit main iterators 33\n",
+        ),
+    ),
+];
+
 #[test]
 fn texts_are_judged_by_what_they_spell(rt: HostRuntime) -> Result<(), Fail> {
-    for (word, text, wanted) in [
-        (
-            CHECK,
-            FIRST,
-            (
-                Status::Done,
-                b"functions 1 methods 0 classes 0 positions 5\n".as_slice(),
-                b"".as_slice(),
-            ),
-        ),
-        (
-            CHECK,
-            COUNTER,
-            (
-                Status::Done,
-                b"functions 1 methods 2 classes 1 positions 43\n",
-                b"",
-            ),
-        ),
-        (b"analyze".as_slice(), COUNTER, NOT_YET),
-        (RUN, COUNTER, NOT_YET),
-        (RUN, b".profile 1;", NOT_YET),
-        (
-            RUN,
-            b".profile 1;.function main(){RetC}",
-            (Status::BadShape, b"", b"bad shape Underflow main 0\n"),
-        ),
-        (
-            CHECK,
-            b".profile 1;.class A {.method m(){Null PopC}}",
-            (Status::BadShape, b"", b"bad shape FallsOff A::m 1\n"),
-        ),
-        (
-            CHECK,
-            b".profile 1;.function main(){True JmpZ L0 Int 1 L0: Null RetC}",
-            (Status::BadShape, b"", b"bad shape DepthMismatch main 2\n"),
-        ),
-        (
-            CHECK,
-            ITERATOR_LEFT_LIVE,
-            (
-                Status::BadShape,
-                b"",
-                b"bad shape IteratorMismatch main 6\n",
-            ),
-        ),
-        (
-            RUN,
-            b".profile 1;.function main(){String \"a\" RetC}",
-            NOT_YET,
-        ),
-        (
-            RUN,
-            b".profile 1;.function main() .returns Int|Str {Null RetC}",
-            NOT_YET,
-        ),
-        (
-            RUN,
-            b".profile 1;.function main(){.numiters 0;L: Null RetC} # a comment",
-            (Status::Done, b"", b"returned null\n"),
-        ),
-        (
-            FORMAT,
-            b".profile 1; .function main(){Jmp end end: String \"\\x41\\x0a\" RetC}",
-            (Status::Done, FORMATTED, b""),
-        ),
-        (
-            FORMAT,
-            b".profile 1;.function main(){RetC}",
-            (
-                Status::Done,
-                b".profile 1;\n.function main() {\n  RetC\n}\n",
-                b"",
-            ),
-        ),
-        (CHECK, b"", (Status::BadText, b"", b"bad text at 0\n")),
-        (
-            RUN,
-            b".profile 2;",
-            (Status::BadText, b"", b"bad text at 9\n"),
-        ),
-        (
-            CHECK,
-            b".profile 1;\n.function main() {\n  String \"ab",
-            (Status::BadText, b"", b"bad text at 40\n"),
-        ),
-        (
-            CHECK,
-            b".profile 1;\n.function main() {\n  Int 9223372036854775808",
-            (Status::BadText, b"", b"bad text at 37\n"),
-        ),
-        (
-            CHECK,
-            b".profile 1;.class A extends B { }.class B extends A { }",
-            (Status::BadLink, b"", b"bad link ClassCycle A A\n"),
-        ),
-        (
-            CHECK,
-            b".profile 1;.function main(){CGetL $x RetC}",
-            (Status::BadLink, b"", b"bad link UnknownName main $x\n"),
-        ),
-        (
-            CHECK,
-            b".profile 1;.function main(){.numiters 33;Null RetC}",
-            (
-                Status::BadLink,
-                b"",
-                b"bad link OverLimit main iterators 33\n",
-            ),
-        ),
-    ] {
-        expect(&rt, rt.alloc(), &[word], text, NONE, wanted)?;
+    for (word, text, wanted) in JUDGED {
+        expect(&rt, rt.alloc(), &[*word], text, NONE, *wanted)?;
     }
     Ok(())
 }
@@ -313,24 +313,27 @@ fn is_of_check(status: Status) -> bool {
     )
 }
 
-#[test]
-fn each_front_of_a_text_has_its_status(rt: HostRuntime) -> Result<(), Fail> {
-    let words = texts(rt.alloc(), &[CHECK])?;
-    for end in 0..=COUNTER.len() {
-        let text = Text::from_bytes(rt.alloc(), &COUNTER[..end])?;
-        let mut source = MemSource::new(text, numbers(rt.alloc(), &[])?);
-        let mut out = MemSink::new(rt.alloc(), 64, numbers(rt.alloc(), &[])?)?;
-        let mut err = MemSink::new(rt.alloc(), 64, numbers(rt.alloc(), &[])?)?;
-        let status = hhbbc(
-            rt.alloc(),
-            words.as_slice(),
-            &mut source,
-            &mut out,
-            &mut err,
-        );
-        assert_eq!(rt; is_of_check(status), true);
+/// `check` gives the text a status of its own.
+fn expect_judged(rt: &impl Abort, alloc: Global, text: &[u8]) -> Result<(), Fail> {
+    let words = texts(alloc, &[CHECK])?;
+    let mut source = MemSource::new(Text::from_bytes(alloc, text)?, numbers(alloc, &[])?);
+    let mut out = MemSink::new(alloc, 64, numbers(alloc, &[])?)?;
+    let mut err = MemSink::new(alloc, 64, numbers(alloc, &[])?)?;
+    let status = hhbbc(alloc, words.as_slice(), &mut source, &mut out, &mut err);
+    assert_eq!(rt; is_of_check(status), true);
+    Ok(())
+}
+
+fn expect_each_front_judged(rt: &impl Abort, alloc: Global, text: &[u8]) -> Result<(), Fail> {
+    for end in 0..=text.len() {
+        expect_judged(rt, alloc, &text[..end])?;
     }
     Ok(())
+}
+
+#[test]
+fn each_front_of_a_text_has_its_status(rt: HostRuntime) -> Result<(), Fail> {
+    expect_each_front_judged(&rt, rt.alloc(), COUNTER)
 }
 
 #[test]
@@ -428,27 +431,5 @@ fn other_words_are_usage(rt: HostRuntime) -> Result<(), Fail> {
             (Status::Usage, b"", b"usage\n"),
         )?;
     }
-    Ok(())
-}
-
-#[test]
-fn an_annotated_repository_is_looked_up(rt: HostRuntime) -> Result<(), Fail> {
-    let Ok(read) = read_text(rt.alloc(), &Text::from_bytes(rt.alloc(), FIRST)?) else {
-        return Err(Fail::from("the first example links"));
-    };
-    let Ok(main) = main_of(rt.alloc(), &read) else {
-        return Err(Fail::from("the first example is of the form"));
-    };
-    let repo = annotated(rt.alloc(), main)?;
-    assert_eq!(rt; repo.bodies(), 1);
-    assert_eq!(rt; repo.class_of(0), None);
-    assert_eq!(rt; repo.find_function(b"main"), Some(0));
-    assert_eq!(rt; repo.find_function(b"x"), None);
-    assert_eq!(rt; repo.find_class(b"Exception"), Some(0));
-    assert_eq!(rt; repo.find_class(b"TypehintViolationException"), Some(5));
-    assert_eq!(rt; repo.find_class(b"main"), None);
-    assert_eq!(rt; repo.class_names().len(), 6);
-    assert_eq!(rt; repo.tree().below(3, 0), true);
-    assert_eq!(rt; repo.tree().below(0, 3), false);
     Ok(())
 }
