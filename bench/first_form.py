@@ -7,24 +7,13 @@ long as those commands take it, and refusing to run a longer one.
 """
 
 import os
-import subprocess
 import sys
 import tempfile
-import time
+
+from measuring import PROGRAM, TOP, build, measured
 
 LIMIT = 16_777_216
 RUN_LIMIT = 134_217_728
-TOP = os.path.dirname(os.path.dirname(os.path.abspath(__file__)))
-PROGRAM = os.path.join(TOP, "hhbbc")
-
-
-def measured(words, path):
-    """Seconds, peak memory in MiB, and the status of one run on a file."""
-    began = time.perf_counter()
-    with open(path, "rb") as text:
-        child = subprocess.Popen(words, stdin=text, stdout=subprocess.DEVNULL, stderr=subprocess.DEVNULL)
-        _, status, usage = os.wait4(child.pid, 0)
-    return time.perf_counter() - began, usage.ru_maxrss / 1024, os.waitstatus_to_exitcode(status)
 
 
 def filled(file, begin, size, end=b""):
@@ -40,7 +29,7 @@ def filled(file, begin, size, end=b""):
 def main():
     with open(os.path.join(TOP, "examples", "first.hhas"), "rb") as example:
         text = example.read()
-    subprocess.run([PROGRAM], stdin=subprocess.DEVNULL, stderr=subprocess.DEVNULL, check=False)
+    build()
     print(f"{'case':<12}{'bytes':>11}  {'run':<8}{'seconds':>9}{'MiB':>8}")
     for name, command, begin, size, end, wanted in [
         ("annotated", "analyze", text, LIMIT // 4, b"", 0),
@@ -57,7 +46,7 @@ def main():
         with tempfile.NamedTemporaryFile() as file:
             filled(file, begin, size, end)
             for run, words in (("hhbbc", [PROGRAM, command]), ("wc -c", ["wc", "-c"])):
-                seconds, peak, status = measured(words, file.name)
+                seconds, peak, status, _ = measured(words, file.name)
                 print(f"{name:<12}{size:>11}  {run:<8}{seconds:>9.3f}{peak:>8.1f}")
                 if run == "hhbbc" and status != wanted:
                     sys.exit(f"status {status}, wanted {wanted}")

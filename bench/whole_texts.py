@@ -6,25 +6,13 @@ call each other, deeply nested try bodies, and a string as long as the longest t
 """
 
 import os
-import subprocess
 import sys
 import tempfile
-import time
+
+from measuring import PROGRAM, build, measured
 
 MIB = 1 << 20
-TOP = os.path.dirname(os.path.dirname(os.path.abspath(__file__)))
-PROGRAM = os.path.join(TOP, "hhbbc")
 BEGIN = b".profile 1;\n"
-
-
-def measured(words, path):
-    """Seconds, peak memory in MiB, the status of one run on a file, and what it writes to standard error."""
-    began = time.perf_counter()
-    with open(path, "rb") as text:
-        child = subprocess.Popen(words, stdin=text, stdout=subprocess.DEVNULL, stderr=subprocess.PIPE)
-        told = child.stderr.read()
-        _, status, usage = os.wait4(child.pid, 0)
-    return time.perf_counter() - began, usage.ru_maxrss / 1024, os.waitstatus_to_exitcode(status), told
 
 
 def codes_of(size):
@@ -84,7 +72,7 @@ def cases():
 
 
 def main():
-    subprocess.run([PROGRAM], stdin=subprocess.DEVNULL, stderr=subprocess.DEVNULL, check=False)
+    build()
     print(f"{'text':<20}{'command':<9}{'bytes':>12}{'seconds':>9}{'MiB':>9}  says")
     for name, command, parts, wanted in cases():
         with tempfile.NamedTemporaryFile() as file:
