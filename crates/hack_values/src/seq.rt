@@ -51,11 +51,16 @@ impl<T> Seq<T> {
 }
 
 impl<T: Drop> Seq<T> {
-    /// Puts the item at the end, and drops it where there is no memory.
+    /// Puts the item at the end, and drops it where there is no memory. Room doubles from one item
+    /// on, since most lists here are short and some items are large.
     pub fn push(&mut self, item: T) -> Result<(), NoMemory>
         ensures ok { OnOk result (self.new ≡ self.old ++ item ∷ []) }
         ensures err { OnErr result (self.new ≡ self.old) }
     {
+        let count = self.items.len();
+        if count == self.items.capacity() {
+            self.items.try_reserve_exact(count.max(1))?;
+        }
         self.items.push(item)?;
         Ok(())
     }
