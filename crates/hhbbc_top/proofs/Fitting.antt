@@ -20,7 +20,7 @@ use Rattle.hhbc_repo.specs.Codes.{pops, pushes}
 use Rattle.hhbc_repo.specs.Form.{AllDiffer, FitAsserts, FitsAssert, FitsOperands, FitsCode, FitsClaimed, FitClaimed, IsReturn, IsSecondBody, IsSecondForm}
 use Rattle.hhbc_repo.specs.Linked.{Linked}
 use Rattle.hhbc_repo.specs.PlainTypes.{Never, Cell, Uninit, Null, False, True, Bool as BoolName, Int, Str, Named, OneInt, IsPlainType, TypeName, type_named, one_int}
-use Rattle.hhbc_repo.specs.Linking.{place_of}
+use Rattle.hhbc_repo.specs.LinkFaults.{place_in}
 use Rattle.hhbc_repo.specs.Shapes.{Types}
 use Rattle.hhbc_repo.specs.Walks.{walks_asserted, TypesWhereAssertedWalks}
 use Rattle.func_analyze.specs.Laws.{IsWord, AreWords}
@@ -30,8 +30,7 @@ use Rattle.hhbbc_top.specs.declared.form.Line.{Line}
 use Rattle.hhbbc_top.specs.declared.form.Main.{Main}
 use Rattle.hhbbc_top.specs.declared.form.Unfit.{Unfit}
 use Rattle.hhbbc_top.specs.Forms.{code_of, plain, position_of, body_of}
-use Rattle.type_lattice.specs.Types.{cell, cell_leaf, key_leaf}
-use Rattle.hhbbc_top.specs.Mains.{bare, AreCodes, AreLines, IsHead, IsLine, IsMainIn, IsMainOf, IsNamed, IsOneInt, IsStep, ends_from, is_return, returns_last}
+use Rattle.hhbbc_top.specs.Mains.{AreCodes, AreLines, IsHead, IsLine, IsMainIn, IsMainOf, IsNamed, IsOneInt, IsStep, ends_from, is_return, returns_last}
 
 wrong : IsTrue false → ⊥
 wrong h = absurd (cc h)
@@ -250,7 +249,7 @@ not-true false h = refl
 abbrev first_of : List ℕ → List (List ℕ) → ℕ
 first_of x out = position_or_len (λ other. pointwise nat_eq other x) out
 
-pub fresh-there : (x : List ℕ) (out : List (List ℕ)) → is_some (place_of x out) ≡ false → Contains out x → ⊥
+pub fresh-there : (x : List ℕ) (out : List (List ℕ)) → is_some (place_in out x) ≡ false → Contains out x → ⊥
 fresh-there x out e h =
     let n : ℕ = first_of x out in
     let past : nat_lt n (length out) ≡ false = sym (some-choice (nat_lt n (length out)) n) ∙ e in
@@ -262,7 +261,7 @@ fresh-there x out e h =
     let passes : pointwise nat_eq (get_or out k x) x ≡ true = (bytes_decides (get_or out k x) x).1 h.2 in
     absurd (cc (fails, passes))
 
-fresh-from : (x : List ℕ) (out : List (List ℕ)) → (Contains out x → ⊥) → is_some (place_of x out) ≡ false
+fresh-from : (x : List ℕ) (out : List (List ℕ)) → (Contains out x → ⊥) → is_some (place_in out x) ≡ false
 fresh-from x out h =
     let n : ℕ = first_of x out in
     some-choice (nat_lt n (length out)) n ∙ not-true (nat_lt n (length out)) (λ t.
@@ -271,9 +270,9 @@ fresh-from x out h =
     h (n, inside, (bytes_decides (get_or out n x) x).0 passes))
 
 -- a name that is there already
-pub not-new : (names out more : List (List ℕ)) (x : List ℕ) → names ≡ out ++ x ∷ more → is_some (place_of x out) ≡ true → AllDiffer names → ⊥
+pub not-new : (names out more : List (List ℕ)) (x : List ℕ) → names ≡ out ++ x ∷ more → is_some (place_in out x) ≡ true → AllDiffer names → ⊥
 not-new names out more x e s d =
-    let no : is_some (place_of x out) ≡ false = fresh-from x out (differ-fresh out x more (subst AllDiffer e d)) in absurd (cc (no, s))
+    let no : is_some (place_in out x) ≡ false = fresh-from x out (differ-fresh out x more (subst AllDiffer e d)) in absurd (cc (no, s))
 
 -- the function that is all of a repository
 pub main_whole : TypesWhereAssertedWalks → (r : Linked) (b : Body) (m : Main) → r.functions ≡ b ∷ [] → r.classes ≡ [] → IsMainIn b m → IsMainOf r m
@@ -306,25 +305,3 @@ pub single : (xs : List Body) (x : Body) → 1 ≤ length xs → length xs ≤ 1
 single [] x l m e = absurd (omega arith)
 single (y ∷ []) x l m e = ap (λ (z : Body). z ∷ []) (sym e)
 single (y ∷ z ∷ xs) x l m e = absurd (omega arith)
-
--- the type of all cells, by its parts
-parts-make : (t u : HType) → bare t ≡ bare u → t.vec ≡ u.vec → t.dict ≡ u.dict → t.keyset ≡ u.keyset → t ≡ u
-parts-make t u b v d k = λ i. record (b i) { vec = v i; dict = d i; keyset = k i }
-
-pub cell-when : (t : HType) → bare t ≡ bare cell → t.vec ≡ Some cell_leaf → t.dict ≡ Some (key_leaf, cell_leaf) → t.keyset ≡ Some key_leaf → t ≡ cell
-cell-when t b v d k = parts-make t cell b v d k
-
-pub cell-parts : (t : HType) → t ≡ cell → (bare t ≡ bare cell) × (t.vec ≡ Some cell_leaf) × (t.dict ≡ Some (key_leaf, cell_leaf)) × (t.keyset ≡ Some key_leaf)
-cell-parts t e = (ap bare e, ap (λ (u : HType). u.vec) e, ap (λ (u : HType). u.dict) e, ap (λ (u : HType). u.keyset) e)
-
--- four tests tell it
-abbrev pub all_four : Bool → Bool → Bool → Bool → Bool
-all_four a b c d = cond a (cond b (cond c d false) false) false
-
-pub cell-told : (t : HType) (a b c d : Bool) → IsTrue a ↔ (bare t ≡ bare cell) → IsTrue b ↔ (t.vec ≡ Some cell_leaf) → IsTrue c ↔ (t.dict ≡ Some (key_leaf, cell_leaf)) → IsTrue d ↔ (t.keyset ≡ Some key_leaf)
-    → IsTrue (all_four a b c d) ↔ (t ≡ cell)
-cell-told t true true true true f g h k = ((λ _. cell-when t (f.0 refl) (g.0 refl) (h.0 refl) (k.0 refl)), λ e. refl)
-cell-told t false b c d f g h k = ((λ x. absurd (wrong x)), λ e. f.1 (cell-parts t e).0)
-cell-told t true false c d f g h k = ((λ x. absurd (wrong x)), λ e. g.1 (cell-parts t e).1)
-cell-told t true true false d f g h k = ((λ x. absurd (wrong x)), λ e. h.1 (cell-parts t e).2)
-cell-told t true true true false f g h k = ((λ x. absurd (wrong x)), λ e. k.1 (cell-parts t e).3)

@@ -11,7 +11,6 @@ use Rattle.hhbc_repo.specs.CanonicalText.{canonical_text}
 use Rattle.hhbc_repo.specs.Form.{IsSecondForm}
 use Rattle.hhbc_repo.specs.Shapes.{Types}
 use Rattle.hhbc_repo.specs.TextSyntax.{FirstFault}
-use Rattle.hhbc_repo.specs.Text.{text}
 use Rattle.hhbc_repo.specs.Run.{Result as Ran, run}
 use Rattle.hhbc_repo.specs.Truth.{IsFaithful}
 use Rattle.hhas_read.specs.LinkedTexts.{LinksWithFault, ReadsRepository}
@@ -96,7 +95,7 @@ pub record IsAnnotatedText (bytes out : List ℕ) : Type 0 where
   -- the annotated repository is the one and only
   pub unique : (other : Linked) → IsAnnotated rounds repo other → other ≡ annotated
   pub faithful : IsFaithful repo annotated
-  pub written : out ≡ text annotated
+  pub written : out ≡ canonical_text annotated
 
 -- how main runs with so many steps at most, without arguments
 abbrev pub ran : Linked → ℕ → Bool → Ran

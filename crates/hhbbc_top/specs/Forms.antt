@@ -9,7 +9,7 @@ use Rattle.hhbc_repo.specs.declared.code.Code.TheVariants as kinds
 use Rattle.hhbc_repo.specs.declared.body.Body.{Body}
 use Rattle.hhbc_repo.specs.declared.body.Position.{Position}
 use Rattle.hhbc_repo.specs.Linked.{Linked}
-use Rattle.hhbc_repo.specs.Text.{text}
+use Rattle.hhbc_repo.specs.CanonicalText.{canonical_text}
 use Rattle.func_analyze.specs.Chain.{annotated_by}
 use Rattle.abstract_step.specs.State.{State}
 use Rattle.hhbbc_top.specs.declared.form.Step.{Step}
@@ -81,4 +81,4 @@ if_reached false s = None
 
 -- the canonical text of a function, annotated along its codes
 abbrev pub annotated_text : Main → List ℕ
-annotated_text m = text (annotated_by (bare_repo_of m))
+annotated_text m = canonical_text (annotated_by (bare_repo_of m))

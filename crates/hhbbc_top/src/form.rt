@@ -4,7 +4,7 @@ ghost use Rattle.std.specs.Prelude.{◌≡◌, ◌≢◌, ◌↔◌, ◌<◌, �
 ghost use Rattle.hhbc_repo.specs.Codes.{pops, pushes};
 ghost use Rattle.hhbc_repo.specs.Form.{IsSecondForm};
 ghost use Rattle.hhbc_repo.specs.Form as forms;
-ghost use Rattle.hhbc_repo.specs.Linking as linking;
+ghost use Rattle.hhbc_repo.specs.LinkFaults.{place_in};
 ghost use Rattle.hhbc_repo.specs.PlainTypes as types;
 ghost use Rattle.hhbc_repo.specs.Shapes.{Types, reaches};
 ghost use Rattle.hhbc_repo.specs.Walks.{walks_asserted};
@@ -494,7 +494,7 @@ fn codes_of(alloc: Global, positions: &[Position], locals: usize) -> Result<Seq<
 
 /// The place of the first local of a name.
 fn place_of(locals: &[Text], name: &[u8]) -> Option<usize>
-    ensures { result ≡ linking.place_of name.now locals.now }
+    ensures { result ≡ place_in locals.now name.now }
 {
     locals.iter().position(|local| local.bytes() == name)
 }

@@ -12,9 +12,12 @@ mod report;
 mod status;
 #[cfg(test)]
 mod tests;
+#[cfg(test)]
+mod tests_formats;
+#[cfg(test)]
+mod tests_shapes;
 mod top;
 mod words;
-mod writer;
 
 use hack_values::{Seq, Text};
 use hh_io::{StdSink, StdSource};

@@ -24,9 +24,9 @@ const CLAIMED: &[u8] =
 
 const RUN: &[u8] = b"run";
 
-const CHECK: &[u8] = b"check";
+pub(crate) const CHECK: &[u8] = b"check";
 
-const FORMAT: &[u8] = b"fmt";
+pub(crate) const FORMAT: &[u8] = b"fmt";
 
 const FORMATTED: &[u8] =
     b".profile 1;\n.function main() {\n  Jmp L0\n  L0:\n  String \"A\\n\"\n  RetC\n}\n";
@@ -64,20 +64,20 @@ fn texts(alloc: Global, items: &[&[u8]]) -> Result<Seq<Text>, Fail> {
 
 /// The calls that fail: of the source, of standard output, and of standard error.
 #[derive(Clone, Copy)]
-struct Failing {
+pub(crate) struct Failing {
     source: &'static [u64],
     out: &'static [u64],
     err: &'static [u64],
 }
 
-const NONE: Failing = Failing {
+pub(crate) const NONE: Failing = Failing {
     source: &[],
     out: &[],
     err: &[],
 };
 
 /// One call of the program, whose status and bytes are as wanted.
-fn expect(
+pub(crate) fn expect(
     rt: &impl Abort,
     alloc: Global,
     words: &[&[u8]],

@@ -23,7 +23,6 @@ use crate::machine::{Ending, run};
 use crate::report::report_of;
 use crate::status::{Status, line_of};
 use crate::words::{Command, command_of};
-use crate::writer::text_of;
 use func_analyze::{bare_chain_annotates, second_is_faithful, second_is_unique};
 use hack_values::{NoMemory, Text};
 use hh_io::{ReadError, Sink, Source, read_all, write_all};
@@ -273,7 +272,7 @@ fn written(alloc: Global, main: Main) -> Result<Answer, Status>
     let Ok(repo) = annotated(alloc, main) else {
         return Err(Status::NoMemory);
     };
-    match text_of(alloc, &repo) {
+    match write_text(alloc, &repo) {
         Ok(text) => Ok(Answer::Text(text)),
         Err(NoMemory) => Err(Status::NoMemory),
     }

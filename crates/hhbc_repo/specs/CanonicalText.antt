@@ -1,5 +1,4 @@
--- The canonical text of every repository: the tokens of its canonical parts, each with the white space before it. The
--- file Text has the same text, for functions of plain instructions without labels and parameters alone.
+-- The canonical text of every repository: the tokens of its canonical parts, each with the white space before it.
 use Rattle.std.specs.Prelude.{ℕ, zero, suc, Bool, true, false, List, [], ◌∷◌, ◌++◌, map, Option, Some, None, codes, pos}
 use Rattle.std.specs.List.{flat_map}
 use Rattle.hhas_lex.specs.Spaced.{Spaced, text_of}

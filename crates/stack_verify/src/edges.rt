@@ -11,8 +11,8 @@ use crate::effects::{IterUse, effect_of, iter_use, labels, pops};
 use crate::known::{Known, agrees};
 use crate::shape::{ShapeKind, Stop};
 use hack_values::NoMemory;
-use hhbc_ops::{Flavour, has_next, may_throw};
-use hhbc_repo::Code;
+use hhbc_ops::{Flavour, has_next};
+use hhbc_repo::{Code, code_may_throw};
 use std::alloc::Global;
 
 /// Where a shape that comes to a position differs from the one that it has.
@@ -32,13 +32,8 @@ fn mismatch(shape: &Known, known: &Known) -> Option<ShapeKind>
 }
 
 /// Brings a shape to a position, which has it from then on where it had none.
-fn lead(
-    alloc: Global,
-    table: &mut Vec<Option<Known>>,
-    shape: &Known,
-    target: usize,
-) -> Result<(), Stop>
-    ensures { MatchResult result (λ _. led table.old.items shape.now target ≡ Ok table.new.items) (λ stop. StopsBy (led table.old.items shape.now target) stop) }
+fn lead(table: &mut Vec<Option<Known>>, shape: Known, target: usize) -> Result<(), Stop>
+    ensures { MatchResult result (λ _. led table.old.items shape target ≡ Ok table.new.items) (λ stop. StopsBy (led table.old.items shape target) stop) }
 {
     if target >= table.len() {
         return Err(Stop::Fails(ShapeKind::FallsOff));
@@ -47,12 +42,12 @@ fn lead(
         return Err(Stop::Fails(ShapeKind::StackTooDeep));
     }
     match &table[target] {
-        Some(known) => match mismatch(shape, known) {
+        Some(known) => match mismatch(&shape, known) {
             Some(kind) => Err(Stop::Fails(kind)),
             None => Ok(()),
         },
         None => {
-            table[target] = Some(shape.copy(alloc)?);
+            table[target] = Some(shape);
             Ok(())
         }
     }
@@ -68,7 +63,7 @@ fn lead_each(
     ensures { MatchResult result (λ _. led_each shape.now targets.now table.old.items ≡ Ok table.new.items) (λ stop. StopsBy (led_each shape.now targets.now table.old.items) stop) }
 {
     for target in targets {
-        match lead(alloc, table, shape, *target as usize) {
+        match lead(table, shape.copy(alloc)?, *target as usize) {
             Ok(()) => {}
             Err(stop) => return Err(stop),
         }
@@ -127,16 +122,6 @@ fn goes_on(code: &Code) -> bool
     }
 }
 
-/// Whether the code may raise an exception.
-fn code_may_throw(code: &Code) -> bool
-    ensures { result ≡ codes.throws code.now }
-{
-    match code {
-        Code::Plain(instr) => may_throw(instr.op),
-        Code::Member(_) => true,
-    }
-}
-
 /// Follows the edge to the next position, where there is one.
 fn follow_next(
     alloc: Global,
@@ -154,7 +139,7 @@ fn follow_next(
         return Ok(());
     }
     let shape = next_shape(alloc, code, known)?;
-    lead(alloc, table, &shape, next)
+    lead(table, shape, next)
 }
 
 /// Follows the edges to the labels that the code names.
@@ -170,6 +155,9 @@ fn follow_labels(
         (λ stop. StopsBy (led_each (shapes.at_label code.now known.now) (codes.labels code.now) table.old.items) stop) }
 {
     let targets = labels(alloc, code)?;
+    if targets.is_empty() {
+        return Ok(());
+    }
     let shape = label_shape(alloc, code, known)?;
     lead_each(alloc, table, &shape, targets.as_slice())
 }
@@ -189,7 +177,7 @@ fn follow_handler(
     match handler {
         Some(target) if code_may_throw(code) => {
             let shape = known.caught(alloc)?;
-            lead(alloc, table, &shape, target as usize)
+            lead(table, shape, target as usize)
         }
         _ => Ok(()),
     }

@@ -2,7 +2,7 @@ use Rattle.std.proofs.Common.{◌≡◌, ℕ, suc, ◌+◌, ◌<◌, ◌++◌, �
 use Rattle.std.proofs.Math.Seq.{take-suc}
 use Rattle.std.proofs.lemmas.List.{take-append-drop}
 use Rattle.hhbc_repo.specs.Form.{AllDiffer}
-use Rattle.hhbc_repo.specs.Linking.{place_of}
+use Rattle.hhbc_repo.specs.LinkFaults.{place_in}
 use Rattle.hhbbc_top.proofs.Fitting.{differ-push, fresh-there, not-new}
 use Rattle.hhbbc_top.proofs.form.locals_of.Goals as goal
 
@@ -18,7 +18,7 @@ returns-then-is_some-clause-other c =
     let xs = c.args.names.now in
     let i = c.loop-name.name-index in
     let x = c.name-item.result in
-    let place = c.place_of.ensures ∙ (λ j. place_of (c.bytes.ensures j) ((c.as_slice.ensures ∙ c.loop-name.invariant.same) j)) in
+    let place = c.place_of.ensures ∙ (λ j. place_in ((c.as_slice.ensures ∙ c.loop-name.invariant.same) j) (c.bytes.ensures j)) in
     λ e d. not-new xs (take i xs) (drop (suc i) xs) x (next xs i x c.loop-name-test.true c.name-item.is) (ap is_some (sym place) ∙ sym c.if-is_some.ensures) d
 
 pub loop-name-preserved : goal.loop-name-preserved
@@ -27,7 +27,7 @@ loop-name-preserved c =
     let i = c.loop-name.name-index in
     let x = c.name-item.result in
     let pushed = c.in_ok-push.ensures.ok ∙ ap (λ (t : List ℕ). c.loop-name.locals ++ t ∷ []) c.in_ok-copy.ensures in
-    let place = c.place_of.ensures ∙ (λ j. place_of (c.bytes.ensures j) (c.as_slice.ensures j)) in
+    let place = c.place_of.ensures ∙ (λ j. place_in (c.as_slice.ensures j) (c.bytes.ensures j)) in
     let fresh = ap is_some (sym place) ∙ sym c.if-is_some.ensures in
     record {
       same = pushed ∙ ap (λ (ys : List (List ℕ)). ys ++ x ∷ []) c.loop-name.invariant.same ∙ sym (one-more xs i x c.loop-name-test.true c.name-item.is);
