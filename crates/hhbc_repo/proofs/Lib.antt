@@ -43,3 +43,4 @@ mod CanonicalExamples
 pub mod BodiesPass
 mod FewIterators
 mod WithinRanges
+pub mod Clearing
