@@ -4,10 +4,8 @@ use Rattle.std.specs.List.{list_all}
 use Rattle.std.proofs.lemmas.Bool.{and_from, and_parts}
 use Rattle.std.proofs.lemmas.List.Folds.{list_all-append}
 use Rattle.hhbc_repo.specs.declared.body.Body.{Body}
-use Rattle.hhbc_repo.specs.declared.repo.Class.{Class}
 use Rattle.hhbc_repo.specs.declared.parts.BodyParts.{BodyParts}
 use Rattle.hhbc_repo.specs.declared.parts.ClassParts.{ClassParts}
-use Rattle.hhbc_repo.specs.declared.link_fault.LinkFault.{LinkFault}
 use Rattle.hhbc_repo.specs.Bodies.{bodies}
 use Rattle.hhbc_repo.specs.LinkFaults.{Name, Place, Whole, body_faults, function_places, method_places, places}
 use Rattle.hhbc_repo.specs.LookUps.{methods_in}

@@ -1,10 +1,13 @@
 -- Lists of spaced tokens that are clear behind every token, and how they make longer ones.
-use Rattle.std.proofs.Common.{◌≡◌, refl, Bool, true, ◌&&◌, List, [], ◌∷◌, ◌++◌}
+use Rattle.std.proofs.Common.{◌≡◌, refl, Bool, true, ◌&&◌, List, [], ◌∷◌, ◌++◌, map}
 use Rattle.std.specs.List.{list_all, flat_map}
 use Rattle.std.proofs.lemmas.Bool.{and_from, and_parts}
 use Rattle.hhas_lex.specs.Spaced.{Spaced, keeps_apart, is_clear}
 use Rattle.hhas_lex.specs.Spelling.{is_proper, touches}
 use Rattle.hhas_lex.specs.Tokens.{Token}
+
+abbrev pub tokens_in : List Spaced → List Token
+tokens_in ss = map (λ (s : Spaced). s.token) ss
 
 abbrev pub Clear : List Spaced → Type 0
 Clear ss = (t : Token) → is_clear t ss ≡ true

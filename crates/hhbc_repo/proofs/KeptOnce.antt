@@ -1,8 +1,8 @@
 -- Numbers of which each is kept once, one after the other.
-use Rattle.std.proofs.Common.{◌≡◌, ℕ, Bool, true, false, ◌==◌, ◌||◌, List, [], ◌∷◌, ◌++◌, Option, Some, None, refl, sym, ap, ◌∙◌, subst, cond}
+use Rattle.std.proofs.Common.{◌≡◌, ℕ, Bool, true, false, ◌==◌, ◌||◌, List, [], ◌∷◌, ◌++◌, refl, sym, ap, ◌∙◌, cond}
 use Rattle.std.proofs.lemmas.Bool.Decides.{Decides-eqb}
 use Rattle.hhbc_repo.specs.Codes.{without, each_once}
-use Rattle.hhbc_repo.specs.EachOnce.{is_among, left, joined, perhaps}
+use Rattle.hhbc_repo.specs.EachOnce.{is_among, left, joined}
 
 -- to leave out what is among the first ones changes nothing
 left_without : (out : List ℕ) (n : ℕ) (ns : List ℕ) → is_among out n ≡ true → left out (without n ns) ≡ left out ns

@@ -13,7 +13,7 @@ use Rattle.hhbc_repo.specs.Bare.{bare, bare_body, bare_class, bare_position}
 use Rattle.hhbc_ops.specs.declared.words.Flavour.{Flavour}
 use Rattle.hhbc_ops.specs.declared.words.Flavour.TheVariants.{C, U}
 use Rattle.hhbc_repo.specs.Edges.{Edge, target, edges, edges_of}
-use Rattle.hhbc_repo.specs.Shapes.{Shape, Check, AllPass, given, given_after, given_by, handed, or_unled, shapes, edge_to, after, hands_on, agree, same_live, reaches, pops_of, slots_read_of, iter_use_of, all_within, all_cells, iter_checks, stack_checks, edge_checks, all_edge_checks, last_checks, checks, first_fault, fault_at}
+use Rattle.hhbc_repo.specs.Shapes.{Shape, Check, AllPass, given, given_after, given_by, handed, or_unled, shapes, edge_to, after, hands_on, agree, same_live, reaches, pops_of, slots_read_of, iter_use_of, all_within, all_cells, iter_checks, edge_checks, all_edge_checks, last_checks, checks, first_fault, fault_at}
 use Rattle.hhbc_repo.proofs.Walking.{shapes_length}
 
 -- an element of a list with one more behind it

@@ -1,5 +1,5 @@
 -- Parts that tokens of a text spell fit.
-use Rattle.std.proofs.Common.{◌≡◌, ◌≤◌, ℕ, suc, ℤ, Bool, true, false, not, ◌&&◌, ◌||◌, nat_le, List, [], ◌∷◌, ◌++◌, Option, Some, None, codes, pos, refl, sym, ap, ap₂, subst, ◌∙◌, arith, append_assoc, inl, inr}
+use Rattle.std.proofs.Common.{◌≡◌, ℕ, Bool, true, false, not, ◌&&◌, ◌||◌, nat_le, List, [], ◌∷◌, ◌++◌, Option, Some, None, codes, refl, sym, ap, subst, ◌∙◌, append_assoc, inl, inr}
 use Rattle.std.specs.List.{list_all, list_any}
 use Rattle.std.proofs.lemmas.Bool.{and_from, and_parts, le-leb}
 use Rattle.std.proofs.lemmas.List.{append-nil}
@@ -7,7 +7,6 @@ use Rattle.hhas_lex.specs.Tokens.{Token, Directive, Word, Local, Integer, Mark}
 use Rattle.hhas_lex.specs.Tokens as tokens
 use Rattle.hhas_lex.specs.Shape.{is_int64}
 use Rattle.hhas_lex.specs.Spelling.{is_proper, is_string, is_word}
-use Rattle.hhas_lex.proofs.Fronts.{split}
 use Rattle.hack_values.specs.declared.cell.Cell.{Cell}
 use Rattle.hack_values.specs.declared.cell.Cell.TheVariants as cells
 use Rattle.hhbc_ops.specs.declared.words.ImmKind.{ImmKind}
@@ -35,12 +34,12 @@ use Rattle.hhbc_repo.specs.declared.parts.MemberSeqParts.{MemberSeqParts}
 use Rattle.hhbc_repo.specs.declared.parts.PositionParts.{PositionParts}
 use Rattle.hhbc_repo.specs.declared.parts.PropertyParts.{PropertyParts}
 use Rattle.hhbc_repo.specs.declared.parts.TypeParts.{TypeParts}
-use Rattle.hhbc_repo.specs.Languages.{Lang, Behind, Ended, Both, Either, Many, Perhaps, Says, Separated}
-use Rattle.hhbc_repo.specs.CodeSyntax.{AWord, ALocal, AString, AnInteger, UpTo, AnIndex, is_reserved, ALabel, AnArm, TextArm, AStringArm, ADefault, Arms, StringArms, IterLocals, Operand, Operands, AnInstruction, ABase, AKey, is_append, is_nullsafe, QueryKey, SetKey, ChangeKey, ADim, AMode, ASetOp, AChange, AFinal, is_query, AMemberSeq, ACode}
+use Rattle.hhbc_repo.specs.Languages.{Lang, Many, Perhaps, Separated}
+use Rattle.hhbc_repo.specs.CodeSyntax.{AWord, ALocal, AString, AnInteger, AnIndex, is_reserved, ALabel, AnArm, TextArm, ADefault, Arms, StringArms, IterLocals, Operand, Operands, ABase, AKey, is_append, is_nullsafe, QueryKey, SetKey, ChangeKey, ADim, AMode, ASetOp, AChange, AFinal, is_query, AMemberSeq, ACode}
 use Rattle.hhbc_repo.specs.BodySyntax.{AnAssert, APosition, Items, Done, Label, Position, Try, has_code, ItemsOf, parts_of, AnItemList, Params, Returns, Declared, Iterators, Inner, ABody}
-use Rattle.hhbc_repo.specs.TextSyntax.{AScalar, AnInitial, AConst, AProperty, AMethod, Member, AsConst, AsProperty, AsMethod, AMember, consts_of, props_of, methods_of, AFunction, AClass, Declaration, AsFunction, AsClass, ADeclaration, functions_of, classes_of}
-use Rattle.hhbc_repo.specs.TypeSyntax.{AType, AConstraint}
-use Rattle.hhbc_repo.specs.TypeFits.{type_fits, constraint_fits, where_there}
+use Rattle.hhbc_repo.specs.TextSyntax.{AScalar, AnInitial, AConst, AProperty, Member, AsConst, AsProperty, AsMethod, AMember, consts_of, props_of, methods_of, AClass, Declaration, AsFunction, AsClass, ADeclaration, functions_of, classes_of}
+use Rattle.hhbc_repo.specs.TypeSyntax.{AType}
+use Rattle.hhbc_repo.specs.TypeFits.{type_fits, where_there}
 use Rattle.hhbc_repo.specs.Fits.{is_index, is_label, has_no_text, has_text, arm_fits, text_arm_fits, arms_fit, text_arms_fit, operand_fits, operands_fit, base_fits, key_fits, query_key_fits, set_key_fits, change_key_fits, final_fits, member_fits, code_fits, assert_fits, position_fits, item_fits, Open, InTry, InCatch, nests, body_fits, scalar_fits, initial_fits, const_fits, property_fits, class_fits, parts_fit}
 use Rattle.hhbc_repo.proofs.SpelledTypes.{AreProper, Passes, all_front, all_back, all_both, behind_passes, ended_passes, both_passes, separated_passes, a_type, a_constraint}
 

@@ -1,5 +1,5 @@
 -- Types that tokens of a text spell are within their ranges, and number their classes as they come.
-use Rattle.std.proofs.Common.{◌≡◌, ◌≤◌, ℕ, lit≤, zero, suc, ◌+◌, ◌-◌, ℤ, Bool, true, false, not, ◌&&◌, ◌==◌, nat_le, List, [], ◌∷◌, ◌++◌, map, length, drop, replicate, Option, Some, None, refl, sym, ap, ap₂, subst, ◌∙◌, arith, append_assoc, length-append, if◌then◌else◌, codes}
+use Rattle.std.proofs.Common.{◌≡◌, ◌≤◌, ℕ, lit≤, zero, suc, ◌+◌, ◌-◌, Bool, true, not, ◌&&◌, ◌==◌, nat_le, List, [], ◌∷◌, ◌++◌, map, length, drop, replicate, Option, None, refl, sym, ap, ap₂, subst, ◌∙◌, arith, append_assoc, length-append, if◌then◌else◌, codes}
 use Rattle.std.specs.List.{list_all, flat_map}
 use Rattle.std.specs.Str.{bytes_eq}
 use Rattle.std.proofs.lemmas.Bool.{and_from, and_parts, eq-eqb, le-leb, leb-true}
@@ -21,9 +21,8 @@ use Rattle.type_lattice.specs.Never.{is_never, no_objs}
 use Rattle.type_lattice.specs.Whole.{whole_leaf, whole_entry, whole_key}
 use Rattle.type_lattice.proofs.NeverLaws.{never_is_never}
 use Rattle.hhbc_repo.specs.Bodies.{numbers}
-use Rattle.hhbc_repo.specs.Languages.{Lang, Behind, Ended, Both, Means, Separated}
-use Rattle.hhbc_repo.specs.TypeSyntax.{Atom, Null, False, True, Bools, Int, OneInt, Str, OneStr, Obj, Exact, Sub, Vec, Dict, Keyset, AnAtom, atom_tokens, line, Ascend, Atoms, is_key_atom, is_broad, Written, Never, Cell, Of, ALeaf, AKeyType, TypeAtom, Uninit, Plain, VecOf, DictOf, KeysetOf, ATypeAtom, type_line, WrittenType, NeverType, CellType, UninitCell, AtomsType, AWrittenType, AWrittenConstraint, atom_classes, classes_in, type_classes, leaf_with, leaf_from, leaf_of, type_plain, type_with, type_from, type_of, constraint_of, AType, AConstraint}
-use Rattle.hhbc_repo.specs.declared.parts.TypeParts.{TypeParts}
+use Rattle.hhbc_repo.specs.Languages.{Lang, Behind, Ended, Both, Separated}
+use Rattle.hhbc_repo.specs.TypeSyntax.{Atom, Null, False, True, Bools, Int, OneInt, Str, OneStr, Obj, Exact, Sub, Vec, Dict, Keyset, AnAtom, line, Ascend, is_key_atom, is_broad, Written, Never, Cell, Of, ALeaf, AKeyType, TypeAtom, Uninit, Plain, VecOf, DictOf, KeysetOf, ATypeAtom, type_line, WrittenType, NeverType, CellType, UninitCell, AtomsType, AWrittenType, AWrittenConstraint, atom_classes, classes_in, type_classes, leaf_with, leaf_from, leaf_of, type_plain, type_with, type_from, type_of, constraint_of, AType, AConstraint}
 use Rattle.hhbc_repo.specs.TypeFits.{short_in_range, int_in_range, str_in_range, leaf_in_range, key_in_range, entry_in_range, where_there, type_in_range, obj_classes, vec_classes, dict_classes, classes_of, type_fits, agree, no_one_int, no_one_str, no_one_class, is_constraint, constraint_fits}
 
 -- ---- proper tokens

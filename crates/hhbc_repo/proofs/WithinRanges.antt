@@ -1,12 +1,11 @@
 -- What a body of parts that fit links to keeps to its ranges, where no check fails.
-use Rattle.std.proofs.Common.{◌≡◌, ◌≤◌, ◌<◌, ℕ, zero, suc, ◌+◌, Bool, true, false, not, ◌&&◌, ◌||◌, nat_le, nat_lt, List, [], ◌∷◌, ◌++◌, map, flat_map, length, slice_get, Option, Some, None, option_map, is_some, refl, sym, ap, ap₂, subst, ◌∙◌, arith, append_assoc, length-append}
+use Rattle.std.proofs.Common.{◌≡◌, ◌≤◌, ℕ, suc, ◌+◌, Bool, true, false, not, ◌&&◌, ◌||◌, nat_le, nat_lt, List, [], ◌∷◌, ◌++◌, map, flat_map, length, slice_get, Option, Some, None, option_map, is_some, refl, sym, ap, ap₂, ◌∙◌, arith, append_assoc, length-append}
 use Rattle.std.specs.List.{list_all, list_any}
 use Rattle.std.specs.Str.{bytes_eq}
-use Rattle.std.proofs.lemmas.Bool.{and_from, and_parts, le-leb, leb-true}
+use Rattle.std.proofs.lemmas.Bool.{and_from, and_parts, le-leb}
 use Rattle.std.proofs.lemmas.List.{map-append}
 use Rattle.std.proofs.lemmas.Slice.Eq.{bytes_eq-Decides}
-use Rattle.hhas_lex.specs.Shape.{is_int64}
-use Rattle.hhas_lex.specs.Spelling.{is_string, is_word}
+use Rattle.hhas_lex.specs.Spelling.{is_word}
 use Rattle.hhbc_ops.specs.declared.op.Op.{Op}
 use Rattle.hhbc_ops.specs.declared.op.Op.TheVariants as ops
 use Rattle.hhbc_ops.specs.declared.words.ImmKind.{ImmKind}
@@ -34,23 +33,19 @@ use Rattle.hhbc_repo.specs.declared.parts.ItemParts.{ItemParts}
 use Rattle.hhbc_repo.specs.declared.parts.ItemParts.TheVariants as items
 use Rattle.hhbc_repo.specs.declared.parts.MemberKeyParts.{MemberKeyParts}
 use Rattle.hhbc_repo.specs.declared.parts.MemberKeyParts.TheVariants as keys
-use Rattle.hhbc_repo.specs.declared.parts.MemberSeqParts.{MemberSeqParts}
 use Rattle.hhbc_repo.specs.declared.parts.PositionParts.{PositionParts}
 use Rattle.hhbc_repo.specs.declared.parts.TypeParts.{TypeParts}
-use Rattle.hhbc_repo.specs.declared.body.Body.{Body}
-use Rattle.hhbc_repo.specs.declared.code.Arm.{Arm}
-use Rattle.hhbc_repo.specs.declared.link_fault.LinkFault.{LinkFault}
 use Rattle.hhbc_repo.specs.declared.link_fault.LinkKind.TheVariants as reasons
 use Rattle.hhbc_repo.specs.Bodies.{bodies, numbers}
 use Rattle.hhbc_repo.specs.declared.parts.ClassParts.{ClassParts}
 use Rattle.hhbc_repo.specs.CodeSyntax as parts
-use Rattle.hhbc_repo.specs.LinkFaults.{Name, Whole, Place, names, place_in, as_it_is, dollar, class_names, class_of, known, differ_from, locals_of, labels_of, label_of, position_in, positions_of, local_faults, label_faults, class_faults, type_faults, stated_faults, assert_faults, key_local, operand_faults, constant_faults, method_faults, instruction_faults, key_faults, base_faults, last_key, code_faults, position_faults, limit_faults, body_faults, faults}
+use Rattle.hhbc_repo.specs.LinkFaults.{Name, Whole, Place, names, place_in, as_it_is, dollar, class_names, class_of, known, differ_from, locals_of, labels_of, position_in, positions_of, local_faults, class_faults, type_faults, stated_faults, assert_faults, key_local, operand_faults, constant_faults, method_faults, instruction_faults, key_faults, base_faults, last_key, code_faults, position_faults, limit_faults, body_faults, faults}
 use Rattle.hhbc_repo.specs.Names.{distinct}
 use Rattle.hhbc_repo.specs.Resolved.{or_zero, named_class, class_at, obj_with, leaf_with, entry_with, type_with, resolved_type, label_here, label_from, local_number, label_number, class_number, resolved_assert, resolved_arm, resolved_operand, resolved_base, resolved_key, resolved_final, resolved_code, resolved_position, resolved_item, resolved_body, resolved}
 use Rattle.hhbc_repo.specs.TypeFits.{int_in_range, str_in_range, leaf_in_range, key_in_range, entry_in_range, where_there, type_in_range, obj_classes, vec_classes, dict_classes, classes_of, type_fits, agree, no_one_int, no_one_str, no_one_class, is_constraint, constraint_fits}
-use Rattle.hhbc_repo.specs.Fits.{is_index, is_label, has_no_text, has_text, arm_fits, text_arm_fits, arms_fit, text_arms_fit, operand_fits, operands_fit, base_fits, key_fits, query_key_fits, set_key_fits, change_key_fits, final_fits, member_fits, code_fits, assert_fits, position_fits, item_fits, nests, body_fits, const_fits, property_fits, class_fits, parts_fit}
+use Rattle.hhbc_repo.specs.Fits.{is_index, is_label, has_no_text, has_text, arm_fits, text_arm_fits, arms_fit, text_arms_fit, operand_fits, operands_fit, base_fits, key_fits, query_key_fits, set_key_fits, change_key_fits, final_fits, code_fits, assert_fits, position_fits, item_fits, nests, body_fits, const_fits, property_fits, class_fits, parts_fit}
 use Rattle.hhbc_repo.specs.Ranges.{few_iterators}
-use Rattle.hhbc_repo.specs.Within.{Bounds, bounds_of, type_within, constraint_within, target_within, arm_within, text_arm_within, arms_within, text_arms_within, local_within, operand_within, operands_within, base_within, key_within, appends, is_nullsafe, is_query, query_key_within, set_key_within, change_key_within, final_within, member_within, code_within, assert_within, position_within, in_limits, body_within}
+use Rattle.hhbc_repo.specs.Within.{Bounds, bounds_of, type_within, constraint_within, target_within, arm_within, text_arm_within, arms_within, text_arms_within, local_within, operand_within, operands_within, base_within, key_within, appends, is_nullsafe, is_query, query_key_within, set_key_within, change_key_within, final_within, code_within, assert_within, position_within, in_limits, body_within}
 use Rattle.hhbc_repo.proofs.NoFaults.{empty_left, empty_right, passes, differ}
 use Rattle.hhbc_repo.proofs.Numbered.{place-within}
 use Rattle.hhbc_repo.proofs.NumbersPut.{absent_names}

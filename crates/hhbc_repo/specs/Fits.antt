@@ -23,7 +23,6 @@ use Rattle.hhbc_repo.specs.declared.parts.FinalParts.{FinalParts}
 use Rattle.hhbc_repo.specs.declared.parts.FinalParts.TheVariants as finals
 use Rattle.hhbc_repo.specs.declared.parts.ImmParts.{ImmParts}
 use Rattle.hhbc_repo.specs.declared.parts.ImmParts.TheVariants as imms
-use Rattle.hhbc_repo.specs.declared.parts.InstrParts.{InstrParts}
 use Rattle.hhbc_repo.specs.declared.parts.ItemParts.{ItemParts}
 use Rattle.hhbc_repo.specs.declared.parts.ItemParts.TheVariants as items
 use Rattle.hhbc_repo.specs.declared.parts.MemberKeyParts.{MemberKeyParts}
@@ -31,7 +30,6 @@ use Rattle.hhbc_repo.specs.declared.parts.MemberKeyParts.TheVariants as keys
 use Rattle.hhbc_repo.specs.declared.parts.MemberSeqParts.{MemberSeqParts}
 use Rattle.hhbc_repo.specs.declared.parts.PositionParts.{PositionParts}
 use Rattle.hhbc_repo.specs.declared.parts.PropertyParts.{PropertyParts}
-use Rattle.hhbc_repo.specs.declared.parts.TypeParts.{TypeParts}
 use Rattle.hhbc_repo.specs.CodeSyntax.{is_append, is_nullsafe, is_query, is_reserved}
 use Rattle.hhbc_repo.specs.TypeFits.{constraint_fits, type_fits, where_there}
 

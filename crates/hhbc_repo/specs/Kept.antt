@@ -9,6 +9,7 @@ use Rattle.hhbc_repo.specs.Bodies.{bodies, class_names, tree_of}
 use Rattle.hhbc_repo.specs.MemberNames.{MemberNames}
 use Rattle.hhbc_repo.specs.Homes.{homes_of}
 use Rattle.hhbc_repo.specs.Ranges.{few_iterators}
+use Rattle.hhbc_repo.specs.Spelled.{HasSpelling}
 use Rattle.hhbc_repo.specs.LookUps.{function_names, all_methods, all_properties}
 
 pub record Kept (r : Linked) (functions class_table class_list : List Name) (methods properties : MemberNames) (tree : Tree) (homes : List Home) : Type 0 where
@@ -22,3 +23,4 @@ pub record Kept (r : Linked) (functions class_table class_list : List Name) (met
   pub body_count : length (bodies r) < 2 ^ 32
   pub class_count : length (class_names r) < 2 ^ 32
   pub iterators : list_all few_iterators (bodies r) ≡ true
+  pub spelling : HasSpelling r

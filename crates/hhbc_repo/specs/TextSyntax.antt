@@ -9,11 +9,11 @@ use Rattle.hhbc_repo.specs.declared.repo.Const.{Const}
 use Rattle.hhbc_repo.specs.declared.parts.BodyParts.{BodyParts}
 use Rattle.hhbc_repo.specs.declared.parts.ClassParts.{ClassParts}
 use Rattle.hhbc_repo.specs.declared.parts.PropertyParts.{PropertyParts}
-use Rattle.hhbc_repo.specs.declared.parts.Parts.{Parts}
 use Rattle.hhbc_repo.specs.Languages.{Lang, Behind, Both, Ended, Many, Perhaps}
 use Rattle.hhbc_repo.specs.TypeSyntax.{AType}
 use Rattle.hhbc_repo.specs.CodeSyntax.{AWord}
 use Rattle.hhbc_repo.specs.BodySyntax.{ABody}
+use Rattle.hhbc_repo.specs.LinkFaults.{Whole}
 
 -- ---- values
 
@@ -106,22 +106,22 @@ classes_of (AsFunction b ∷ ds) = classes_of ds
 classes_of (AsClass c ∷ ds) = c ∷ classes_of ds
 
 -- ".profile 1;", functions and classes, and the end
-pub record AText (ts : List Token) (r : Parts) : Type 0 where
+pub record AText (ts : List Token) (w : Whole) : Type 0 where
   pub declared : List Declaration
   pub word : Behind (Directive (codes "profile") ∷ Integer (pos 1) ∷ Mark 59 ∷ []) (Ended (Many ADeclaration) (End ∷ [])) ts declared
-  pub functions : r.functions ≡ functions_of declared
-  pub classes : r.classes ≡ classes_of declared
+  pub functions : w.functions ≡ functions_of declared
+  pub classes : w.classes ≡ classes_of declared
 
 -- ---- texts
 
 -- the parts that the bytes spell
-abbrev pub Spells : List ℕ → Parts → Type 0
-Spells bytes r = AText (tokens bytes) r
+abbrev pub Spells : List ℕ → Whole → Type 0
+Spells bytes w = AText (tokens bytes) w
 
 -- some text of the grammar has these tokens at its front
 pub record IsFront (ts : List Token) : Type 0 where
   pub bytes : List ℕ
-  pub parts : Parts
+  pub parts : Whole
   pub more : List Token
   pub spells : Spells bytes parts
   pub begins : tokens bytes ≡ ts ++ more

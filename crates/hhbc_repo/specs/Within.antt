@@ -1,6 +1,6 @@
 -- What linking sees to in each body, as a test: words, ints, strings and indices keep to their ranges, and each number of a local,
 -- an iterator, a position or a class is one that the body or the repository has.
-use Rattle.std.specs.Prelude.{ℕ, Bool, true, false, not, ◌&&◌, ◌||◌, nat_le, nat_lt, List, [], ◌∷◌, length, Option, Some, None}
+use Rattle.std.specs.Prelude.{ℕ, Bool, true, false, not, ◌&&◌, ◌||◌, nat_le, nat_lt, List, [], ◌∷◌, length}
 use Rattle.std.specs.List.{list_all, list_any}
 use Rattle.hhas_lex.specs.Shape.{is_int64}
 use Rattle.hhas_lex.specs.Spelling.{is_string, is_word}

@@ -24,6 +24,7 @@ mod link_operands;
 mod link_positions;
 mod link_types;
 mod linker;
+mod linking_back;
 mod listed;
 mod look_ups;
 mod member_checks;
@@ -35,8 +36,10 @@ mod regions;
 mod repo;
 mod scope;
 mod soundness;
+mod spelling;
 mod stack;
 mod telling;
+mod whole_parts;
 
 pub use body::{Assert, Body, Position, Region};
 pub use code::{Arm, Base, Code, Final, Imm, Instr, MemberKey, MemberSeq};
@@ -48,10 +51,12 @@ pub use laws::{
 };
 pub use link_fault::{LinkError, LinkFault, LinkKind};
 pub use linker::link;
+pub use linking_back::linked_parts_link_back;
 pub use parts::{
     ArmParts, AssertParts, BaseParts, BodyParts, ClassParts, CodeParts, FinalParts, ImmParts,
-    InstrParts, ItemParts, MemberKeyParts, MemberSeqParts, Parts, PositionParts, PropertyParts,
-    TypeParts,
+    InstrParts, ItemParts, MemberKeyParts, MemberSeqParts, PositionParts, PropertyParts, TypeParts,
 };
 pub use repo::{Class, Const, Property, Repo};
 pub use soundness::{Analysed, facts_stay_true, rounds_stay_true, sample_is_true, tests_only_stop};
+pub use spelling::{claims_leave_a_spelling, fitting_parts_are_spelled};
+pub use whole_parts::Parts;

@@ -16,8 +16,9 @@ use crate::link_classes::{linked_classes, linked_functions};
 use crate::link_counts::check_counts;
 use crate::link_fault::LinkError;
 use crate::member_checks::check_members;
-use crate::parts::{BodyParts, ClassParts, Parts};
+use crate::parts::{BodyParts, ClassParts};
 use crate::repo::{Class, Repo};
+use crate::whole_parts::Parts;
 use hack_values::Seq;
 use std::alloc::Global;
 

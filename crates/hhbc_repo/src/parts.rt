@@ -5,13 +5,6 @@ use type_lattice::HType;
 
 // A repository before linking. Locals stand without their dollar sign; locals, labels and classes are names.
 
-/// What a text spells: its functions and its classes, each in their order.
-#[derive(Debug, Drop)]
-pub struct Parts {
-    pub functions: Seq<BodyParts>,
-    pub classes: Seq<ClassParts>,
-}
-
 /// A function or a method, with the locals that it declares beside its parameters.
 #[derive(Debug, Drop)]
 pub struct BodyParts {

@@ -2,6 +2,7 @@ ghost use Rattle.std.specs.Prelude.{◌≡◌, ◌<◌, ◌≤◌, ℕ, IfOk, If
 ghost use Rattle.hhbc_repo.specs.Bodies.{bodies, body_at, class_names, tree_of};
 ghost use Rattle.hhbc_repo.specs.LinkFaults.{place_in};
 ghost use Rattle.hhbc_repo.specs.LookUps.{IsMethodOf, Sound, function_names, method_of, owners, property_of};
+ghost use Rattle.hhbc_repo.specs.Spelled.{HasSpelling};
 
 use crate::body::Body;
 use crate::class_list::{list_of_classes, tree_of_classes};
@@ -74,7 +75,8 @@ impl Model for Repo {
 impl Repo {
     /// A repository of these functions and classes.
     pub fn new(alloc: Global, functions: Seq<Body>, classes: Seq<Class>) -> Result<Repo, NoMemory>
-        requires { Sound (record { functions = functions; classes = classes }) }
+        requires sound { Sound (record { functions = functions; classes = classes }) }
+        requires spelled { HasSpelling (record { functions = functions; classes = classes }) }
         ensures { IfOk result (λ repo. repo ≡ record { functions = functions; classes = classes }) }
     {
         let function_table = table_of_bodies(alloc, functions.as_slice())?;
@@ -95,6 +97,13 @@ impl Repo {
             tree,
             homes,
         })
+    }
+
+    /// Its canonical text spells it: its canonical parts are parts of a text, and link back to it.
+    pub fn has_spelling(&self)
+        ensures { HasSpelling self.now }
+    {
+        let _ = self.functions.as_slice();
     }
 
     /// No body has more than 32 iterators.

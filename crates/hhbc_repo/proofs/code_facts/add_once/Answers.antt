@@ -1,4 +1,4 @@
-use Rattle.std.proofs.Common.{◌≡◌, ◌∷◌, ◌++◌, List, [], ℕ, sym, ap, ◌∙◌}
+use Rattle.std.proofs.Common.{sym, ap, ◌∙◌}
 use Rattle.hhbc_repo.specs.EachOnce.{is_among, joined}
 use Rattle.hhbc_repo.proofs.KeptOnce.{joined_there, joined_new}
 use Rattle.hhbc_repo.proofs.code_facts.add_once.Goals as goal

@@ -1,8 +1,7 @@
-use Rattle.std.proofs.Common.{◌≡◌, ◌∷◌, [], ◌++◌, List, ℕ, refl, sym, ap, ◌∙◌}
+use Rattle.std.proofs.Common.{◌∷◌, [], ◌++◌, refl, sym, ap, ◌∙◌}
 use Rattle.std.specs.List.{flat_map}
 use Rattle.std.proofs.lemmas.Grind.{flat_map-append}
 use Rattle.hhbc_repo.specs.Codes as codes
-use Rattle.hhbc_repo.specs.EachOnce.{joined}
 use Rattle.hhbc_repo.proofs.KeptOnce.{joined_three}
 use Rattle.hhbc_repo.proofs.code_facts.sequence_locals.Goals as goal
 

@@ -14,7 +14,7 @@ members first names = record { first = first; names = names }
 pub methods_of-requires-clause-fits : goal.methods_of-requires-clause-fits
 methods_of-requires-clause-fits c =
     subst₂ (λ (fs : List Body) (cs : List Class). length fs + total (method_names cs) < 2 ^ 32) (sym c.as_slice-4.ensures) (sym c.as_slice-5.ensures)
-    (bodies_fit c.args.functions c.args.classes c.requires.body_count)
+    (bodies_fit c.args.functions c.args.classes c.requires.sound.body_count)
 
 pub invariant_of-result : goal.invariant_of-result
 invariant_of-result c =
@@ -27,7 +27,8 @@ invariant_of-result c =
       properties_are = c.in_ok-properties.ensures ∙ ap (λ (cs : List Class). members 0 (((codes "message" ∷ []) ∷ no_names) ++ property_names cs)) c.as_slice-6.ensures;
       tree_is = c.in_ok-tree.ensures ∙ ap (λ (cs : List Class). built_in_tree ++ parents_of_classes cs) c.as_slice-7.ensures;
       homes_are = c.in_ok-homes.ensures ∙ ap₂ (λ (fs : List Body) (cs : List Class). homes_of fs cs) c.as_slice-8.ensures c.as_slice-9.ensures;
-      body_count = c.requires.body_count;
-      class_count = c.requires.class_count;
-      iterators = c.requires.iterators;
+      body_count = c.requires.sound.body_count;
+      class_count = c.requires.sound.class_count;
+      iterators = c.requires.sound.iterators;
+      spelling = c.requires.spelled;
     }

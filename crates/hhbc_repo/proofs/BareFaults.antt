@@ -1,0 +1,267 @@
+-- Where assertions and stated types pass the checks of linking, the checks of the parts without them are the same; and where no check
+-- fails, they pass.
+use Rattle.std.proofs.Common.{◌≡◌, ℕ, suc, ◌+◌, not, nat_le, List, [], ◌∷◌, ◌++◌, map, flat_map, take, length, Option, Some, None, codes, refl, sym, ap, ap₂, ◌∙◌}
+use Rattle.std.proofs.lemmas.Grind.{flat_map-append}
+use Rattle.std.proofs.lemmas.List.{length-map}
+use Rattle.std.proofs.lemmas.Simd.{map-map}
+use Rattle.type_lattice.specs.Classes.{Tree, parent_of, chain, has}
+use Rattle.hhbc_ops.specs.declared.op.Op.{Op}
+use Rattle.hhbc_ops.specs.declared.op.Op.TheVariants as ops
+use Rattle.hhbc_repo.specs.declared.link_fault.LinkFault.{LinkFault}
+use Rattle.hhbc_repo.specs.declared.link_fault.LinkKind.TheVariants as reasons
+use Rattle.hhbc_repo.specs.declared.parts.ArmParts.{ArmParts}
+use Rattle.hhbc_repo.specs.declared.parts.BodyParts.{BodyParts}
+use Rattle.hhbc_repo.specs.declared.parts.ClassParts.{ClassParts}
+use Rattle.hhbc_repo.specs.declared.parts.CodeParts.{CodeParts}
+use Rattle.hhbc_repo.specs.declared.parts.CodeParts.TheVariants as forms
+use Rattle.hhbc_repo.specs.declared.parts.ImmParts.{ImmParts}
+use Rattle.hhbc_repo.specs.declared.parts.ImmParts.TheVariants as imms
+use Rattle.hhbc_repo.specs.declared.parts.PositionParts.{PositionParts}
+use Rattle.hhbc_repo.specs.declared.parts.PropertyParts.{PropertyParts}
+use Rattle.hhbc_repo.specs.declared.repo.Const.{Const}
+use Rattle.hhbc_repo.specs.LinkFaults.{Name, Whole, Place, names, as_it_is, dollar, check, within, class_names, class_of, parents, above, ancestors, different, properties, along, differ_from, locals_of, labels_of, positions_of, nesting, label_faults, type_faults, stated_faults, assert_faults, operand_faults, constant_faults, method_faults, function_faults, instruction_faults, code_faults, position_faults, limit_faults, body_faults, function_places, method_places, places, parent_faults, count_faults, repeated_functions, class_checks, property_checks, member_checks, each_class, first_class, faults}
+use Rattle.hhbc_repo.proofs.AlikeWholes.{Alike, place, class_same, class_faults_same, type_faults_same, parent_faults_same, constant_faults_same, method_faults_same, function_faults_same}
+use Rattle.hhbc_repo.proofs.BareWholes.{bare_position_parts, bare_parts, bare_property_parts, bare_class_parts, bare_whole, labels_bare, positions_bare, nesting_bare, bare_alike}
+use Rattle.hhbc_repo.proofs.BodyCounts.{places_start, methods_next}
+use Rattle.hhbc_repo.proofs.NoFaults.{empty_left, empty_right}
+
+-- ---- a body
+
+-- the checks of assertions
+abbrev pub asserts_faults : Place → List PositionParts → List LinkFault
+asserts_faults p qs = flat_map (λ (q : PositionParts). flat_map (assert_faults p) q.asserts) qs
+
+pub record ClaimsPass (p : Place) : Type 0 where
+  pub stated : stated_faults p.whole p.owner p.body.stated ≡ []
+  pub asserts : asserts_faults p (positions_of p.body) ≡ []
+
+module _ (w : Whole) (b : BodyParts) (owner : Name) where
+  abbrev here : Place
+  here = place w b owner
+
+  abbrev there : Place
+  there = place (bare_whole w) (bare_parts b) owner
+
+  label_bare : (name : Name) → label_faults there name ≡ label_faults here name
+  label_bare name = ap (λ (l : List Name). check (names l name) reasons.UnknownLabel owner name 0) (labels_bare b.items)
+
+  operand_bare : (m : ImmParts) → operand_faults there m ≡ operand_faults here m
+  operand_bare (imms.Pos name) = label_bare name
+  operand_bare (imms.Class name) = class_faults_same w (bare_whole w) (bare_alike w) owner name
+  operand_bare (imms.Constraint t) = type_faults_same w (bare_whole w) (bare_alike w) owner t
+  operand_bare (imms.Arms xs) = λ i. flat_map (λ (a : ArmParts). label_bare a.target i) xs
+  operand_bare m = refl
+
+  instruction_bare : (op : Op) (ms : List ImmParts) → instruction_faults there op ms ≡ instruction_faults here op ms
+  instruction_bare ops.ClsCnsD (imms.Name name ∷ imms.Class class ∷ []) =
+      ap (constant_faults there name class) (class_same w (bare_whole w) (bare_alike w) class) ∙ constant_faults_same w (bare_whole w) (bare_alike w) b (bare_parts b) owner name class (class_of w class)
+  instruction_bare ops.FCallClsMethodD (imms.Count n ∷ imms.Name name ∷ imms.Class class ∷ []) =
+      ap (method_faults there name class n) (class_same w (bare_whole w) (bare_alike w) class) ∙ method_faults_same w (bare_whole w) (bare_alike w) b (bare_parts b) owner name class n (class_of w class)
+  instruction_bare ops.FCallFuncD (imms.Count n ∷ imms.Name name ∷ []) = function_faults_same w (bare_whole w) (bare_alike w) b (bare_parts b) owner name n
+  instruction_bare op ms = λ i. flat_map (λ (m : ImmParts). operand_bare m i) ms
+
+  code_bare : (c : CodeParts) → code_faults there c ≡ code_faults here c
+  code_bare (forms.Plain c) = instruction_bare c.op c.imms
+  code_bare (forms.Member m) = refl
+
+  each_bare : (qs : List PositionParts) → asserts_faults here qs ≡ [] → flat_map (position_faults there) (map bare_position_parts qs) ≡ flat_map (position_faults here) qs
+  each_bare [] e = refl
+  each_bare (q ∷ qs) e =
+      let first = flat_map (assert_faults here) q.asserts in
+      ap₂ (λ (x y : List LinkFault). x ++ y)
+      (code_bare q.code ∙ ap (λ (l : List LinkFault). l ++ code_faults here q.code) (sym (empty_left first (asserts_faults here qs) e)))
+      (each_bare qs (empty_right first (asserts_faults here qs) e))
+
+  pub body_bare : ClaimsPass (place w b owner) → body_faults (place (bare_whole w) (bare_parts b) owner) ≡ body_faults (place w b owner)
+  body_bare c =
+      let count : length (positions_of (bare_parts b)) ≡ length (positions_of b) = ap length (positions_bare b.items) ∙ length-map (positions_of b) bare_position_parts in
+      let positions : flat_map (position_faults there) (positions_of (bare_parts b)) ≡ flat_map (position_faults here) (positions_of b) =
+      ap (flat_map (position_faults there)) (positions_bare b.items) ∙ each_bare (positions_of b) c.asserts in
+      let stated : [] ≡ stated_faults w owner b.stated = sym c.stated in
+      λ i. (within 255 (length (locals_of b)) owner (codes "locals")
+      ++ (within 32 b.iters owner (codes "iterators") ++ (within 65535 (count i) owner (codes "positions") ++ within 64 (nesting_bare 0 b.items i) owner (codes "nesting"))))
+      ++ (differ_from reasons.DuplicateName owner dollar [] (locals_of b)
+      ++ (differ_from reasons.DuplicateLabel owner as_it_is [] (labels_bare b.items i) ++ (stated i ++ positions i)))
+
+  asserts_pass : (qs : List PositionParts) → flat_map (position_faults here) qs ≡ [] → asserts_faults here qs ≡ []
+  asserts_pass [] e = refl
+  asserts_pass (q ∷ qs) e =
+      let now = position_faults here q in
+      let later = flat_map (position_faults here) qs in
+      ap₂ (λ (x y : List LinkFault). x ++ y) (empty_left (flat_map (assert_faults here) q.asserts) (code_faults here q.code) (empty_left now later e)) (asserts_pass qs (empty_right now later e))
+
+  pub claims_pass : body_faults (place w b owner) ≡ [] → ClaimsPass (place w b owner)
+  claims_pass e =
+      let limits = limit_faults here in
+      let locals = differ_from reasons.DuplicateName owner dollar [] (locals_of b) in
+      let labels = differ_from reasons.DuplicateLabel owner as_it_is [] (labels_of b) in
+      let stated = stated_faults w owner b.stated in
+      let each = flat_map (position_faults here) (positions_of b) in
+      let behind = empty_right labels (stated ++ each) (empty_right locals (labels ++ (stated ++ each)) (empty_right limits (locals ++ (labels ++ (stated ++ each))) e)) in
+      record { stated = empty_left stated each behind; asserts = asserts_pass (positions_of b) (empty_right stated each behind) }
+
+-- ---- bodies
+
+-- bodies that faults call by what comes of their names
+abbrev pub places_called : Whole → (Name → Name) → List BodyParts → List Place
+places_called w called bs = map (λ (b : BodyParts). record { whole = w; body = b; owner = called b.name }) bs
+
+-- what faults call the methods of a class
+abbrev pub of_class : ClassParts → Name → Name
+of_class c name = c.name ++ (codes "::" ++ name)
+
+abbrev pub BodiesClaimsPass : Whole → (Name → Name) → List BodyParts → Type 0
+BodiesClaimsPass w called [] = Unit {0}
+BodiesClaimsPass w called (b ∷ bs) = ClaimsPass (place w b (called b.name)) × BodiesClaimsPass w called bs
+
+bodies_bare : (w : Whole) (called : Name → Name) (bs : List BodyParts) → BodiesClaimsPass w called bs
+    → flat_map body_faults (places_called (bare_whole w) called (map bare_parts bs)) ≡ flat_map body_faults (places_called w called bs)
+bodies_bare w called [] c = refl
+bodies_bare w called (b ∷ bs) c = ap₂ (λ (x y : List LinkFault). x ++ y) (body_bare w b (called b.name) c.0) (bodies_bare w called bs c.1)
+
+bodies_claims : (w : Whole) (called : Name → Name) (bs : List BodyParts) → flat_map body_faults (places_called w called bs) ≡ [] → BodiesClaimsPass w called bs
+bodies_claims w called [] e = tt
+bodies_claims w called (b ∷ bs) e =
+    let now = body_faults (place w b (called b.name)) in
+    let later = flat_map body_faults (places_called w called bs) in
+    (claims_pass w b (called b.name) (empty_left now later e), bodies_claims w called bs (empty_right now later e))
+
+-- ---- classes
+
+-- the checks of what properties state
+abbrev pub properties_faults : Whole → Name → List PropertyParts → List LinkFault
+properties_faults w owner ps = flat_map (λ (p : PropertyParts). stated_faults w owner p.stated) ps
+
+abbrev pub ClassesClaimsPass : Whole → List ClassParts → Type 0
+ClassesClaimsPass w [] = Unit {0}
+ClassesClaimsPass w (c ∷ cs) = (properties_faults w c.name c.props ≡ []) × BodiesClaimsPass w (of_class c) c.methods × ClassesClaimsPass w cs
+
+properties_bare : (w : Whole) (owner : Name) (before : List Name) (ps : List PropertyParts) → properties_faults w owner ps ≡ []
+    → property_checks (bare_whole w) owner before (map bare_property_parts ps) ≡ property_checks w owner before ps
+properties_bare w owner before [] e = refl
+properties_bare w owner before (p ∷ ps) e =
+    let now = stated_faults w owner p.stated in
+    ap₂ (λ (x y : List LinkFault). check (not (names before p.name)) reasons.DuplicateProperty owner p.name 0 ++ (x ++ y))
+    (sym (empty_left now (properties_faults w owner ps) e)) (properties_bare w owner (before ++ p.name ∷ []) ps (empty_right now (properties_faults w owner ps) e))
+
+properties_claims : (w : Whole) (owner : Name) (before : List Name) (ps : List PropertyParts) → property_checks w owner before ps ≡ [] → properties_faults w owner ps ≡ []
+properties_claims w owner before [] e = refl
+properties_claims w owner before (p ∷ ps) e =
+    let apart = check (not (names before p.name)) reasons.DuplicateProperty owner p.name 0 in
+    let now = stated_faults w owner p.stated in
+    let later = property_checks w owner (before ++ p.name ∷ []) ps in
+    let rest = empty_right apart (now ++ later) e in
+    ap₂ (λ (x y : List LinkFault). x ++ y) (empty_left now later rest) (properties_claims w owner (before ++ p.name ∷ []) ps (empty_right now later rest))
+
+class_bare : (w : Whole) (n : ℕ) (c : ClassParts) → class_checks (bare_whole w) n (bare_class_parts c) ≡ class_checks w n c
+class_bare w n c =
+    let alike = bare_alike w in
+    λ i. check (not (names (take n (alike.names_same i)) c.name)) reasons.DuplicateName c.name c.name 0
+    ++ (parent_faults_same w (bare_whole w) alike c.name c.parent i
+    ++ (check (not (has n (above (alike.tree_same i) (parent_of (alike.tree_same i) n)))) reasons.ClassCycle c.name c.name 0
+    ++ check (nat_le (different (chain (alike.tree_same i) n)) 64) reasons.ClassTooDeep c.name c.name 0))
+
+classes_bare : (w : Whole) (n : ℕ) (cs : List ClassParts) → each_class (class_checks (bare_whole w)) n (map bare_class_parts cs) ≡ each_class (class_checks w) n cs
+classes_bare w n [] = refl
+classes_bare w n (c ∷ cs) = ap₂ (λ (x y : List LinkFault). x ++ y) (class_bare w n c) (classes_bare w (suc n) cs)
+
+member_bare : (w : Whole) (n : ℕ) (c : ClassParts) → properties_faults w c.name c.props ≡ [] → member_checks (bare_whole w) n (bare_class_parts c) ≡ member_checks w n c
+member_bare w n c e =
+    let alike = bare_alike w in
+    let consts = differ_from reasons.DuplicateName c.name as_it_is [] (map (λ (k : Const). k.name) c.consts) in
+    let inherited : along (properties (bare_whole w)) (ancestors (bare_whole w) n) ≡ along (properties w) (ancestors w n) =
+    ap₂ (λ (t : List (List Name)) (r : Tree). along t (above r (parent_of r n))) alike.properties_same alike.tree_same in
+    ap₂ (λ (props : List LinkFault) (ms : List Name). consts ++ (props ++ differ_from reasons.DuplicateName c.name as_it_is [] ms))
+    (ap (λ (before : List Name). property_checks (bare_whole w) c.name before (map bare_property_parts c.props)) inherited
+    ∙ properties_bare w c.name (along (properties w) (ancestors w n)) c.props e)
+    (map-map (λ (b : BodyParts). b.name) bare_parts c.methods)
+
+members_bare : (w : Whole) (n : ℕ) (cs : List ClassParts) → ClassesClaimsPass w cs → each_class (member_checks (bare_whole w)) n (map bare_class_parts cs) ≡ each_class (member_checks w) n cs
+members_bare w n [] c = refl
+members_bare w n (k ∷ ks) c = ap₂ (λ (x y : List LinkFault). x ++ y) (member_bare w n k c.0) (members_bare w (suc n) ks c.2)
+
+methods_bare : (w : Whole) (cs : List ClassParts) → ClassesClaimsPass w cs
+    → flat_map body_faults (flat_map (method_places (bare_whole w)) (map bare_class_parts cs)) ≡ flat_map body_faults (flat_map (method_places w) cs)
+methods_bare w [] c = refl
+methods_bare w (k ∷ ks) c =
+    flat_map-append body_faults (method_places (bare_whole w) (bare_class_parts k)) (flat_map (method_places (bare_whole w)) (map bare_class_parts ks))
+    ∙ ap₂ (λ (x y : List LinkFault). x ++ y) (bodies_bare w (of_class k) k.methods c.1) (methods_bare w ks c.2)
+    ∙ sym (flat_map-append body_faults (method_places w k) (flat_map (method_places w) ks))
+
+classes_claims : (w : Whole) (n : ℕ) (cs : List ClassParts) → each_class (member_checks w) n cs ≡ [] → flat_map body_faults (flat_map (method_places w) cs) ≡ [] → ClassesClaimsPass w cs
+classes_claims w n [] e m = tt
+classes_claims w n (c ∷ cs) e m =
+    let consts = differ_from reasons.DuplicateName c.name as_it_is [] (map (λ (k : Const). k.name) c.consts) in
+    let before = along (properties w) (ancestors w n) in
+    let props = property_checks w c.name before c.props in
+    let methods = differ_from reasons.DuplicateName c.name as_it_is [] (map (λ (b : BodyParts). b.name) c.methods) in
+    let more = each_class (member_checks w) (suc n) cs in
+    let now = flat_map body_faults (method_places w c) in
+    let later = flat_map body_faults (flat_map (method_places w) cs) in
+    let split = sym (flat_map-append body_faults (method_places w c) (flat_map (method_places w) cs)) ∙ m in (
+      properties_claims w c.name before c.props (empty_left props methods (empty_right consts (props ++ methods) (empty_left (member_checks w n c) more e))),
+      bodies_claims w (of_class c) c.methods (empty_left now later split),
+      classes_claims w (suc n) cs (empty_right (member_checks w n c) more e) (empty_right now later split),
+    )
+
+-- ---- all of it
+
+method_counts : (w : Whole) (cs : List ClassParts) → length (flat_map (method_places (bare_whole w)) (map bare_class_parts cs)) ≡ length (flat_map (method_places w) cs)
+method_counts w [] = refl
+method_counts w (c ∷ cs) =
+    methods_next (bare_whole w) (bare_class_parts c) (map bare_class_parts cs)
+    ∙ ap₂ (λ (m n : ℕ). m + n) (length-map c.methods bare_parts) (method_counts w cs)
+    ∙ sym (methods_next w c cs)
+
+counts_bare : (w : Whole) → count_faults (bare_whole w) ≡ count_faults w
+counts_bare w =
+    ap₂ (λ (m n : ℕ). within 65535 m [] (codes "functions") ++ within 16384 n [] (codes "classes"))
+    (places_start (bare_whole w) ∙ ap₂ (λ (m n : ℕ). m + n) (length-map w.functions bare_parts) (method_counts w w.classes) ∙ sym (places_start w))
+    (length-map w.classes bare_class_parts)
+
+functions_bare : (before : List Name) (bs : List BodyParts) → repeated_functions before (map bare_parts bs) ≡ repeated_functions before bs
+functions_bare before [] = refl
+functions_bare before (b ∷ bs) = ap (λ (l : List LinkFault). check (not (names before b.name)) reasons.DuplicateName b.name b.name 0 ++ l) (functions_bare (before ++ b.name ∷ []) bs)
+
+abbrev pub AllClaimsPass : Whole → Type 0
+AllClaimsPass w = BodiesClaimsPass w as_it_is w.functions × ClassesClaimsPass w w.classes
+
+-- the checks are the same without the claims
+pub faults_bare : (w : Whole) → AllClaimsPass w → faults (bare_whole w) ≡ faults w
+faults_bare w c =
+    let v = bare_whole w in
+    let bodies : flat_map body_faults (places v) ≡ flat_map body_faults (places w) =
+    flat_map-append body_faults (function_places v) (flat_map (method_places v) v.classes)
+    ∙ ap₂ (λ (x y : List LinkFault). x ++ y) (bodies_bare w as_it_is w.functions c.0) (methods_bare w w.classes c.1)
+    ∙ sym (flat_map-append body_faults (function_places w) (flat_map (method_places w) w.classes)) in
+    λ i. counts_bare w i ++ (functions_bare [] w.functions i ++ (classes_bare w first_class w.classes i ++ (members_bare w first_class w.classes c.1 i ++ bodies i)))
+
+-- what the checks of classes and bodies say where none fails
+pub record NoneFails (w : Whole) : Type 0 where
+  pub classes : each_class (class_checks w) first_class w.classes ≡ []
+  pub members : each_class (member_checks w) first_class w.classes ≡ []
+  pub bodies : flat_map body_faults (places_called w as_it_is w.functions) ≡ []
+  pub methods : flat_map body_faults (flat_map (method_places w) w.classes) ≡ []
+
+pub none_fails : (w : Whole) → faults w ≡ [] → NoneFails w
+none_fails w h =
+    let functions = repeated_functions [] w.functions in
+    let classes = each_class (class_checks w) first_class w.classes in
+    let members = each_class (member_checks w) first_class w.classes in
+    let rest = flat_map body_faults (places w) in
+    let bodies = flat_map body_faults (function_places w) in
+    let methods = flat_map body_faults (flat_map (method_places w) w.classes) in
+    let from_classes = empty_right functions (classes ++ (members ++ rest)) (empty_right (count_faults w) (functions ++ (classes ++ (members ++ rest))) h) in
+    let from_members = empty_right classes (members ++ rest) from_classes in
+    let split = sym (flat_map-append body_faults (function_places w) (flat_map (method_places w) w.classes)) ∙ empty_right members rest from_members in
+    record {
+      classes = empty_left classes (members ++ rest) from_classes;
+      members = empty_left members rest from_members;
+      bodies = empty_left bodies methods split;
+      methods = empty_right bodies methods split;
+    }
+
+pub all_claims : (w : Whole) → faults w ≡ [] → AllClaimsPass w
+all_claims w h =
+    let n = none_fails w h in
+    (bodies_claims w as_it_is w.functions n.bodies, classes_claims w first_class w.classes n.members n.methods)

@@ -1,0 +1,345 @@
+-- Types whose classes are numbers of a repository's, with the names of these classes: they fit, pass the checks of linking and link to
+-- the same types. Proper types are such.
+use Rattle.std.proofs.Common.{◌≡◌, ◌≤◌, ◌<◌, ◌^◌, ℕ, zero, suc, ◌+◌, ◌-◌, ℤ, pos, negsuc, Bool, true, false, not, ◌&&◌, ◌||◌, ◌==◌, nat_le, nat_lt, List, [], ◌∷◌, ◌++◌, map, flat_map, length, drop, replicate, slice_get, Option, Some, None, option_map, is_some, All, refl, sym, ap, ap₂, subst, ◌∙◌, arith, append_assoc, length-append, cond}
+use Rattle.std.specs.Prelude.{FitsSigned}
+use Rattle.std.proofs.Common.{w64}
+use Rattle.std.specs.List.{list_all}
+use Rattle.std.specs.Str.{bytes_eq}
+use Rattle.std.proofs.lemmas.Bool.{and_from, and_parts, eq-eqb, le-leb, leb-true}
+use Rattle.std.proofs.lemmas.List.{append-nil, length-map, map-append}
+use Rattle.std.proofs.lemmas.List.Folds.{list_any-append}
+use Rattle.std.proofs.lemmas.Slice.Eq.{bytes_eq-Decides}
+use Rattle.hhas_lex.specs.Shape.{is_int64}
+use Rattle.hhas_lex.specs.Spelling.{is_byte, is_word}
+use Rattle.type_lattice.specs.declared.types.IntPart.{IntPart}
+use Rattle.type_lattice.specs.declared.types.IntPart.TheVariants as ints
+use Rattle.type_lattice.specs.declared.types.StrPart.{StrPart}
+use Rattle.type_lattice.specs.declared.types.StrPart.TheVariants as strs
+use Rattle.type_lattice.specs.declared.types.ObjPart.{ObjPart}
+use Rattle.type_lattice.specs.declared.types.ObjPart.TheVariants as objs
+use Rattle.type_lattice.specs.declared.types.Short.{Short}
+use Rattle.type_lattice.specs.declared.types.Leaf.{Leaf}
+use Rattle.type_lattice.specs.declared.types.HType.{HType}
+use Rattle.type_lattice.specs.Classes.{Tree}
+use Rattle.type_lattice.specs.Never.{no_objs}
+use Rattle.type_lattice.specs.Proper.{ProperInt, ProperShort, ProperStr, ProperObj, ProperLeaf, ProperKey, ProperVec, ProperDict, ProperKeyset, IsProper}
+use Rattle.type_lattice.specs.TypeText.{named, class_name}
+use Rattle.hhbc_repo.specs.Bodies.{numbers}
+use Rattle.hhbc_repo.specs.LinkFaults.{Name, Whole, is_name, names, place_in, class_names, class_of, known, class_faults, type_faults}
+use Rattle.hhbc_repo.specs.Names.{distinct, distinct_from}
+use Rattle.hhbc_repo.specs.Resolved.{or_zero, named_class, class_at, obj_with, leaf_with, entry_with, type_with, resolved_type}
+use Rattle.hhbc_repo.specs.TypeFits.{short_in_range, int_in_range, str_in_range, leaf_in_range, key_in_range, entry_in_range, where_there, type_in_range, obj_classes, vec_classes, dict_classes, classes_of, type_fits}
+use Rattle.hhbc_repo.specs.WrittenTypes.{obj_placed, leaf_placed, entry_placed, canonical_type}
+use Rattle.hhbc_repo.specs.WrittenTypes as written
+use Rattle.hhbc_repo.specs.Within.{type_within}
+use Rattle.hhbc_repo.proofs.NoFaults.{not_false}
+use Rattle.hhbc_repo.proofs.NumbersPut.{place_step}
+use Rattle.hhbc_repo.proofs.SpelledTypes.{all_front, all_back, all_both}
+
+-- ---- names by number
+
+pub word_at : (all : List Name) (n : ℕ) → list_all is_word all ≡ true → nat_lt n (length all) ≡ true → is_word (class_name all n) ≡ true
+word_at [] n h k = let l = leb-true (suc n) 0 k in absurd (omega (arith, l))
+word_at (x ∷ xs) zero h k = (and_parts (is_word x) (list_all is_word xs) h).0
+word_at (x ∷ xs) (suc n) h k =
+    let l = leb-true (suc (suc n)) (suc (length xs)) k in
+    word_at xs n (and_parts (is_word x) (list_all is_word xs) h).1 (le-leb (suc n) (length xs) (omega (arith, l)))
+
+own_name : (name : Name) → is_name name name ≡ true
+own_name [] = refl
+own_name (b ∷ bs) = grind (arith, own_name bs)
+
+neither : (a b : Bool) → a || (b || false) ≡ false → (a ≡ false) × (b ≡ false)
+neither true b h = absurd (cc)
+neither false true h = absurd (cc)
+neither false false h = (refl, refl)
+
+-- where names differ, each is found at its own place, and not before
+numbered_place : (before all : List Name) (n : ℕ) → distinct_from before all ≡ true → n < length all
+    → (names before (class_name all n) ≡ false) × (place_in all (class_name all n) ≡ Some n)
+numbered_place before [] n h k = absurd (omega arith)
+numbered_place before (x ∷ xs) zero h k =
+    let p = and_parts (not (names before x)) (distinct_from (before ++ x ∷ []) xs) h in
+    (not_false (names before x) p.0, place_step x xs x ∙ ap (λ (b : Bool). cond b (Some 0) (option_map (λ k. suc k) (place_in xs x))) (own_name x))
+numbered_place before (x ∷ xs) (suc n) h k =
+    let name = class_name xs n in
+    let p = and_parts (not (names before x)) (distinct_from (before ++ x ∷ []) xs) h in
+    let q = numbered_place (before ++ x ∷ []) xs n p.1 (omega arith) in
+    let r = neither (names before name) (is_name name x) (sym (list_any-append (is_name name) before (x ∷ [])) ∙ q.0) in
+    (r.0, place_step x xs name ∙ ap₂ (λ (b : Bool) (o : Option ℕ). cond b (Some 0) (option_map (λ k. suc k) o)) r.1 q.1)
+
+pub place_of_number : (all : List Name) (n : ℕ) → distinct all ≡ true → nat_lt n (length all) ≡ true → place_in all (class_name all n) ≡ Some n
+place_of_number all n h k = (numbered_place [] all n h (leb-true (suc n) (length all) k)).1
+
+-- ---- types with the names of their classes
+
+numbers_on : (n j k : ℕ) → numbers n j ++ numbers (n + j) k ≡ numbers n (j + k)
+numbers_on n zero k =
+    let first : n + 0 ≡ n = omega arith in
+    let many : k ≡ 0 + k = omega arith in
+    ap₂ numbers first many
+numbers_on n (suc j) k =
+    let first : n + suc j ≡ suc n + j = omega arith in
+    let many : suc (j + k) ≡ suc j + k = omega arith in
+    ap (λ l. n ∷ l) (ap (λ m. numbers (suc n) j ++ numbers m k) first ∙ numbers_on (suc n) j k) ∙ ap (numbers n) many
+
+there_still : {A : Type 0} (g : A → A) (test : A → Bool) → ((a : A) → test (g a) ≡ test a) → (o : Option A) → where_there test (option_map g o) ≡ where_there test o
+there_still g test h None = refl
+there_still g test h (Some a) = h a
+
+module _ (all : List Name) where
+  abbrev called : ℕ → Name
+  called c = class_name all c
+
+  obj_called : (o : ObjPart) → written.obj_classes all o ≡ map called (obj_classes o)
+  obj_called objs.No = refl
+  obj_called (objs.Exact c) = refl
+  obj_called (objs.Sub c) = refl
+  obj_called objs.Any = refl
+
+  vec_called : (v : Option Leaf) → written.vec_classes all v ≡ map called (vec_classes v)
+  vec_called None = refl
+  vec_called (Some l) = obj_called l.obj
+
+  dict_called : (d : Option (Leaf × Leaf)) → written.dict_classes all d ≡ map called (dict_classes d)
+  dict_called None = refl
+  dict_called (Some e) = obj_called e.1.obj
+
+  classes_called : (t : HType) → (canonical_type all t).classes ≡ map called (classes_of t)
+  classes_called t =
+      ap₂ (λ (x y : List Name). x ++ y) (obj_called t.obj) (ap₂ (λ (x y : List Name). x ++ y) (vec_called t.vec) (dict_called t.dict) ∙ sym (map-append called (vec_classes t.vec) (dict_classes t.dict)))
+      ∙ sym (map-append called (obj_classes t.obj) (vec_classes t.vec ++ dict_classes t.dict))
+
+  obj_count : (o : ObjPart) → length (written.obj_classes all o) ≡ length (obj_classes o)
+  obj_count o = ap length (obj_called o) ∙ length-map (obj_classes o) called
+
+  vec_count : (v : Option Leaf) → length (written.vec_classes all v) ≡ length (vec_classes v)
+  vec_count v = ap length (vec_called v) ∙ length-map (vec_classes v) called
+
+  placed_range : (t : HType) → type_in_range (canonical_type all t).t ≡ type_in_range t
+  placed_range t =
+      let a = length (written.obj_classes all t.obj) in
+      let b = a + length (written.vec_classes all t.vec) in
+      ap₂ (λ (v d : Bool). int_in_range t.int && (str_in_range t.str && (v && (d && where_there key_in_range t.keyset))))
+      (there_still (leaf_placed a) leaf_in_range (λ l. refl) t.vec) (there_still (entry_placed b) entry_in_range (λ e. refl) t.dict)
+
+  obj_numbers : (n : ℕ) (o : ObjPart) → obj_classes (obj_placed n o) ≡ numbers n (length (obj_classes o))
+  obj_numbers n objs.No = refl
+  obj_numbers n (objs.Exact c) = refl
+  obj_numbers n (objs.Sub c) = refl
+  obj_numbers n objs.Any = refl
+
+  vec_numbers : (n : ℕ) (v : Option Leaf) → vec_classes (option_map (leaf_placed n) v) ≡ numbers n (length (vec_classes v))
+  vec_numbers n None = refl
+  vec_numbers n (Some l) = obj_numbers n l.obj
+
+  dict_numbers : (n : ℕ) (d : Option (Leaf × Leaf)) → dict_classes (option_map (entry_placed n) d) ≡ numbers n (length (dict_classes d))
+  dict_numbers n None = refl
+  dict_numbers n (Some e) = obj_numbers n e.1.obj
+
+  -- the classes are numbered as they come
+  placed_classes : (t : HType) → classes_of (canonical_type all t).t ≡ numbers 0 (length (canonical_type all t).classes)
+  placed_classes t =
+      let a = length (obj_classes t.obj) in
+      let b = length (vec_classes t.vec) in
+      let c = length (dict_classes t.dict) in
+      let from_a : length (written.obj_classes all t.obj) ≡ a = obj_count t.obj in
+      let from_b : length (written.obj_classes all t.obj) + length (written.vec_classes all t.vec) ≡ a + b = ap₂ (λ (x y : ℕ). x + y) from_a (vec_count t.vec) in
+      let x : List ℕ = numbers 0 a in
+      let first : a ≡ 0 + a = omega arith in
+      let counted : a + (b + c) ≡ length (canonical_type all t).classes =
+      ap (λ (n : ℕ). a + n) (sym (length-append (vec_classes t.vec) (dict_classes t.dict))) ∙ sym (length-append (obj_classes t.obj) (vec_classes t.vec ++ dict_classes t.dict))
+      ∙ sym (length-map (classes_of t) called) ∙ ap length (sym (classes_called t)) in
+      ap₂ (λ (o v : List ℕ). o ++ v) (obj_numbers 0 t.obj)
+      (ap₂ (λ (v d : List ℕ). v ++ d)
+      (vec_numbers (length (written.obj_classes all t.obj)) t.vec ∙ ap (λ n. numbers n b) from_a)
+      (dict_numbers (length (written.obj_classes all t.obj) + length (written.vec_classes all t.vec)) t.dict ∙ ap (λ n. numbers n c) from_b)
+      ∙ numbers_on a b c)
+      ∙ ap (λ n. x ++ numbers n (b + c)) first ∙ numbers_on 0 a (b + c) ∙ ap (numbers 0) counted
+
+  called_words : list_all is_word all ≡ true → (cs : List ℕ) → list_all (λ c. nat_lt c (length all)) cs ≡ true → list_all is_word (map called cs) ≡ true
+  called_words h [] k = refl
+  called_words h (c ∷ cs) k =
+      let p = and_parts (nat_lt c (length all)) (list_all (λ c. nat_lt c (length all)) cs) k in
+      and_from (is_word (called c)) (list_all is_word (map called cs)) (word_at all c h p.0) (called_words h cs p.1)
+
+  pub type_canonical_fits : (t : HType) → list_all is_word all ≡ true → type_within (length all) t ≡ true → type_fits (canonical_type all t) ≡ true
+  type_canonical_fits t h k =
+      let u = canonical_type all t in
+      let p = and_parts (type_in_range t) (list_all (λ c. nat_lt c (length all)) (classes_of t)) k in
+      and_from (type_in_range u.t) (bytes_eq (classes_of u.t) (numbers 0 (length u.classes)) && list_all is_word u.classes) (placed_range t ∙ p.0)
+      (and_from (bytes_eq (classes_of u.t) (numbers 0 (length u.classes))) (list_all is_word u.classes)
+      ((bytes_eq-Decides (classes_of u.t) (numbers 0 (length u.classes))).1 (placed_classes t))
+      (ap (list_all is_word) (classes_called t) ∙ called_words h (classes_of t) p.1))
+
+-- ---- parts without classes
+
+module _ (f : ℕ → ℕ) where
+  no_class : (o : ObjPart) → no_objs o ≡ true → obj_with f o ≡ o
+  no_class objs.No h = refl
+  no_class (objs.Exact c) h = absurd (cc)
+  no_class (objs.Sub c) h = absurd (cc)
+  no_class objs.Any h = refl
+
+  key_kept : (k : Leaf) → key_in_range k ≡ true → leaf_with f k ≡ k
+  key_kept k h =
+      let kinds = not k.vec && (not k.dict && not k.keyset) in
+      let a = and_parts (leaf_in_range k) (not k.null && (not k.no && (not k.yes && (no_objs k.obj && kinds)))) h in
+      let b = and_parts (not k.null) (not k.no && (not k.yes && (no_objs k.obj && kinds))) a.1 in
+      let c = and_parts (not k.no) (not k.yes && (no_objs k.obj && kinds)) b.1 in
+      let d = and_parts (not k.yes) (no_objs k.obj && kinds) c.1 in
+      ap (λ (o : ObjPart). record k { obj = o }) (no_class k.obj (and_parts (no_objs k.obj) kinds d.1).0)
+
+  keyset_kept : (k : Option Leaf) → where_there key_in_range k ≡ true → option_map (leaf_with f) k ≡ k
+  keyset_kept None h = refl
+  keyset_kept (Some l) h = ap (λ (l : Leaf). Some l) (key_kept l h)
+
+-- ---- in a repository whose classes have different names
+
+name_there : (all : List Name) (front rest : List ℕ) (c : ℕ) → slice_get (map (class_name all) (front ++ c ∷ rest)) (length front) ≡ Some (class_name all c)
+name_there all [] rest c = refl
+name_there all (x ∷ front) rest c = name_there all front rest c
+
+module _ (w : Whole) (apart : distinct (class_names w) ≡ true) where
+  abbrev listed : ℕ → Bool
+  listed c = nat_lt c (length (class_names w))
+
+  abbrev to_name : ℕ → Name
+  to_name c = class_name (class_names w) c
+
+  number_forth : (c : ℕ) → listed c ≡ true → class_of w (to_name c) ≡ Some c
+  number_forth c h = place_of_number (class_names w) c apart h
+
+  classes_known : (owner : Name) (cs : List ℕ) → list_all listed cs ≡ true → flat_map (class_faults w owner) (map to_name cs) ≡ []
+  classes_known owner [] h = refl
+  classes_known owner (c ∷ cs) h =
+      let p = and_parts (listed c) (list_all listed cs) h in
+      ap₂ (λ x y. x ++ y) (ap (λ (o : Option ℕ). known (is_some o) owner (to_name c)) (number_forth c p.0)) (classes_known owner cs p.1)
+
+  one_forth : (all front rest : List ℕ) (c n : ℕ) → all ≡ front ++ c ∷ rest → n ≡ length front → listed c ≡ true → class_at w (map to_name all) n ≡ c
+  one_forth all front rest c n e l h =
+      ap₂ (λ (xs : List ℕ) (m : ℕ). class_at w (map to_name xs) m) e l
+      ∙ ap (named_class w) (name_there (class_names w) front rest c) ∙ ap or_zero (number_forth c h)
+
+  obj_forth : (all front rest : List ℕ) (n : ℕ) (o : ObjPart) → all ≡ front ++ (obj_classes o ++ rest) → n ≡ length front → list_all listed (obj_classes o) ≡ true
+      → obj_with (class_at w (map to_name all)) (obj_placed n o) ≡ o
+  obj_forth all front rest n objs.No e l h = refl
+  obj_forth all front rest n (objs.Exact c) e l h = ap objs.Exact (one_forth all front rest c n e l (and_parts (listed c) true h).0)
+  obj_forth all front rest n (objs.Sub c) e l h = ap objs.Sub (one_forth all front rest c n e l (and_parts (listed c) true h).0)
+  obj_forth all front rest n objs.Any e l h = refl
+
+  vec_forth : (all front rest : List ℕ) (n : ℕ) (v : Option Leaf) → all ≡ front ++ (vec_classes v ++ rest) → n ≡ length front → list_all listed (vec_classes v) ≡ true
+      → option_map (leaf_with (class_at w (map to_name all))) (option_map (leaf_placed n) v) ≡ v
+  vec_forth all front rest n None e l h = refl
+  vec_forth all front rest n (Some v) e l h = ap (λ (o : ObjPart). Some (record v { obj = o })) (obj_forth all front rest n v.obj e l h)
+
+  dict_forth : (all front rest : List ℕ) (n : ℕ) (d : Option (Leaf × Leaf)) → where_there entry_in_range d ≡ true → all ≡ front ++ (dict_classes d ++ rest) → n ≡ length front
+      → list_all listed (dict_classes d) ≡ true → option_map (entry_with (class_at w (map to_name all))) (option_map (entry_placed n) d) ≡ d
+  dict_forth all front rest n None r e l h = refl
+  dict_forth all front rest n (Some d) r e l h =
+      let key = key_kept (class_at w (map to_name all)) d.0 (and_parts (key_in_range d.0) (leaf_in_range d.1) r).0 in
+      let value = ap (λ (o : ObjPart). record d.1 { obj = o }) (obj_forth all front rest n d.1.obj e l h) in
+      λ i. Some (key i, value i)
+
+  resolves_forth : (t : HType) → type_within (length (class_names w)) t ≡ true → type_with (class_at w (map to_name (classes_of t))) (canonical_type (class_names w) t).t ≡ t
+  resolves_forth t h =
+      let vecs = where_there leaf_in_range t.vec in
+      let dicts = where_there entry_in_range t.dict in
+      let keysets = where_there key_in_range t.keyset in
+      let p = and_parts (type_in_range t) (list_all listed (classes_of t)) h in
+      let x = and_parts (int_in_range t.int) (str_in_range t.str && (vecs && (dicts && keysets))) p.0 in
+      let y = and_parts (str_in_range t.str) (vecs && (dicts && keysets)) x.1 in
+      let z = and_parts dicts keysets (and_parts vecs (dicts && keysets) y.1).1 in
+      let all = classes_of t in
+      let front = obj_classes t.obj in
+      let middle = vec_classes t.vec in
+      let last = dict_classes t.dict in
+      let behind = all_back listed front (middle ++ last) p.1 in
+      let n = length (written.obj_classes (class_names w) t.obj) in
+      let m = length (written.vec_classes (class_names w) t.vec) in
+      let counted : n + m ≡ length (front ++ middle) =
+      ap₂ (λ (a b : ℕ). a + b) (obj_count (class_names w) t.obj) (vec_count (class_names w) t.vec) ∙ sym (length-append front middle) in
+      let split : all ≡ (front ++ middle) ++ (last ++ []) = sym (append_assoc front middle last) ∙ ap (λ l. (front ++ middle) ++ l) (sym (append-nil last)) in
+      let object = obj_forth all [] (middle ++ last) 0 t.obj refl refl (all_front listed front (middle ++ last) p.1) in
+      let vec = vec_forth all front last n t.vec refl (obj_count (class_names w) t.obj) (all_front listed middle last behind) in
+      let dict = dict_forth all (front ++ middle) [] (n + m) t.dict z.0 split counted (all_back listed middle last behind) in
+      let keyset = keyset_kept (class_at w (map to_name all)) t.keyset z.1 in
+      λ i. record t { obj = object i; vec = vec i; dict = dict i; keyset = keyset i }
+
+  pub type_forth : (owner : Name) (t : HType) → type_within (length (class_names w)) t ≡ true
+      → (type_faults w owner (canonical_type (class_names w) t) ≡ []) × (resolved_type w (canonical_type (class_names w) t) ≡ t)
+  type_forth owner t h =
+      let p = and_parts (type_in_range t) (list_all listed (classes_of t)) h in
+      let named_so = classes_called (class_names w) t in (
+        ap (flat_map (class_faults w owner)) named_so ∙ classes_known owner (classes_of t) p.1,
+        ap (λ (l : List Name). type_with (class_at w l) (canonical_type (class_names w) t).t) named_so ∙ resolves_forth t h,
+      )
+
+-- ---- proper types
+
+int_within : (p : IntPart) → ProperInt p → int_in_range p ≡ true
+int_within ints.No h = refl
+int_within (ints.One (pos n)) h = le-leb (suc n) (2 ^ 63) h.sfits
+int_within (ints.One (negsuc n)) h = le-leb (suc n) (2 ^ 63) h.sfits
+int_within ints.Any h = refl
+
+bytes_within : (bs : List ℕ) → All (λ b. b < 256) bs → list_all is_byte bs ≡ true
+bytes_within [] h = refl
+bytes_within (b ∷ bs) h = and_from (is_byte b) (list_all is_byte bs) (le-leb (suc b) 256 (h 0 0 (omega arith))) (bytes_within bs (λ k d l. h (suc k) d (omega (arith, l))))
+
+short_within : (s : Short) → ProperShort s → short_in_range s ≡ true
+short_within s h =
+    let zeros = bytes_eq (drop s.len s.bytes) (replicate (32 - s.len) 0) in
+    and_from (nat_le s.len 32) ((length s.bytes == 32) && (list_all is_byte s.bytes && zeros)) (le-leb s.len 32 h.short)
+    (and_from (length s.bytes == 32) (list_all is_byte s.bytes && zeros) (eq-eqb (length s.bytes) 32 h.room)
+    (and_from (list_all is_byte s.bytes) zeros (bytes_within s.bytes h.bytes) ((bytes_eq-Decides (drop s.len s.bytes) (replicate (32 - s.len) 0)).1 h.zeros)))
+
+str_within : (p : StrPart) → ProperStr p → str_in_range p ≡ true
+str_within strs.No h = refl
+str_within (strs.One s) h = short_within s h
+str_within strs.Any h = refl
+
+key_within : (k : Leaf) → ProperKey k → key_in_range k ≡ true
+key_within k h =
+    let e : (not k.null && (not k.no && (not k.yes && (no_objs k.obj && (not k.vec && (not k.dict && not k.keyset)))))) ≡ true =
+    λ i. not (h.null i) && (not (h.no i) && (not (h.yes i) && (no_objs (h.obj i) && (not (h.vec i) && (not (h.dict i) && not (h.keyset i)))))) in
+    and_from (leaf_in_range k) (not k.null && (not k.no && (not k.yes && (no_objs k.obj && (not k.vec && (not k.dict && not k.keyset))))))
+    (and_from (int_in_range k.int) (str_in_range k.str) (int_within k.int h.int) (str_within k.str h.str)) e
+
+module _ (tree : Tree) where
+  abbrev in_tree : ℕ → Bool
+  in_tree c = nat_lt c (length tree)
+
+  obj_within : (o : ObjPart) → ProperObj tree o → list_all in_tree (obj_classes o) ≡ true
+  obj_within objs.No h = refl
+  obj_within (objs.Exact c) h = and_from (in_tree c) true (le-leb (suc c) (length tree) h) refl
+  obj_within (objs.Sub c) h = and_from (in_tree c) true (le-leb (suc c) (length tree) h) refl
+  obj_within objs.Any h = refl
+
+  leaf_within : (l : Leaf) → ProperLeaf tree l → leaf_in_range l ≡ true
+  leaf_within l h = and_from (int_in_range l.int) (str_in_range l.str) (int_within l.int h.int) (str_within l.str h.str)
+
+  vec_within : (v : Option Leaf) → ProperVec tree v → (where_there leaf_in_range v ≡ true) × (list_all in_tree (vec_classes v) ≡ true)
+  vec_within None h = (refl, refl)
+  vec_within (Some l) h = (leaf_within l h, obj_within l.obj h.obj)
+
+  dict_within : (d : Option (Leaf × Leaf)) → ProperDict tree d → (where_there entry_in_range d ≡ true) × (list_all in_tree (dict_classes d) ≡ true)
+  dict_within None h = (refl, refl)
+  dict_within (Some e) h = (and_from (key_in_range e.0) (leaf_in_range e.1) (key_within e.0 h.0) (leaf_within e.1 h.1), obj_within e.1.obj h.1.obj)
+
+  keyset_within : (k : Option Leaf) → ProperKeyset k → where_there key_in_range k ≡ true
+  keyset_within None h = refl
+  keyset_within (Some l) h = key_within l h
+
+  pub proper_within : (t : HType) → IsProper tree t → type_within (length tree) t ≡ true
+  proper_within t h =
+      let vecs = where_there leaf_in_range t.vec in
+      let dicts = where_there entry_in_range t.dict in
+      let keysets = where_there key_in_range t.keyset in
+      let v = vec_within t.vec h.vec in
+      let d = dict_within t.dict h.dict in
+      and_from (type_in_range t) (list_all in_tree (classes_of t))
+      (and_from (int_in_range t.int) (str_in_range t.str && (vecs && (dicts && keysets))) (int_within t.int h.int)
+      (and_from (str_in_range t.str) (vecs && (dicts && keysets)) (str_within t.str h.str)
+      (and_from vecs (dicts && keysets) v.0 (and_from dicts keysets d.0 (keyset_within t.keyset h.keyset)))))
+      (all_both in_tree (obj_classes t.obj) (vec_classes t.vec ++ dict_classes t.dict) (obj_within t.obj h.obj) (all_both in_tree (vec_classes t.vec) (dict_classes t.dict) v.1 d.1))
