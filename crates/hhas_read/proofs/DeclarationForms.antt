@@ -3,8 +3,8 @@ use Rattle.std.proofs.Common.{◌≡◌, true, false, List, [], ◌∷◌, ◌++
 use Rattle.hhas_lex.specs.Tokens.{Token, Directive, front}
 use Rattle.hhbc_repo.specs.declared.parts.BodyParts.{BodyParts}
 use Rattle.hhbc_repo.specs.declared.parts.ClassParts.{ClassParts}
-use Rattle.hhbc_repo.specs.declared.parts.Parts.{Parts}
 use Rattle.hhbc_repo.specs.Languages.{Lang, Behind, Many, Means}
+use Rattle.hhbc_repo.specs.LinkFaults.{Whole}
 use Rattle.hhbc_repo.specs.BodySyntax.{ABody}
 use Rattle.hhbc_repo.specs.TextSyntax as grammar
 use Rattle.hhbc_repo.specs.TextSyntax.{AClass, ADeclaration, classes_of, functions_of}
@@ -72,7 +72,7 @@ not_at_end : (w : List Token) (d : grammar.Declaration) (x : List Token) → ADe
 not_at_end w (grammar.AsFunction b) x n is = never_both (sym is ∙ ap (λ l. is_end (front (l ++ x))) n.tokens)
 not_at_end w (grammar.AsClass c) x n is = never_both (sym is ∙ ap is_end (class_first w c x n))
 
-abbrev pub AllDeclared : Lang Parts
+abbrev pub AllDeclared : Lang Whole
 AllDeclared = Means parts_of (Many ADeclaration)
 
 pub all_declared_law : Lawful is_end AllDeclared
@@ -97,7 +97,7 @@ classes_more [] d = refl
 classes_more (grammar.AsFunction b ∷ ds) d = classes_more ds d
 classes_more (grammar.AsClass c ∷ ds) d = ap (λ l. c ∷ l) (classes_more ds d)
 
-made : (a c : List BodyParts) (b d : List ClassParts) → a ≡ c → b ≡ d → ◌≡◌ {A = Parts} (record { functions = a; classes = b }) (record { functions = c; classes = d })
+made : (a c : List BodyParts) (b d : List ClassParts) → a ≡ c → b ≡ d → ◌≡◌ {A = Whole} (record { functions = a; classes = b }) (record { functions = c; classes = d })
 made a c b d p q = λ i. record { functions = p i; classes = q i }
 
 parts_more : (ds : List grammar.Declaration) (d : grammar.Declaration) → parts_of (ds ++ d ∷ []) ≡ with_declaration d (parts_of ds)
@@ -105,14 +105,14 @@ parts_more ds (grammar.AsFunction b) = made _ _ _ _ (functions_more ds (grammar.
 parts_more ds (grammar.AsClass c) = made _ _ _ _ (functions_more ds (grammar.AsClass c) ∙ append-nil (functions_of ds)) (classes_more ds (grammar.AsClass c))
 
 -- functions and classes were taken
-abbrev pub PartsTaken : Placed → Placed → Parts → Type 0
+abbrev pub PartsTaken : Placed → Placed → Whole → Type 0
 PartsTaken start now parts = (done : List grammar.Declaration) × ManyTaken is_end ADeclaration start now done × (parts ≡ parts_of done)
 
 pub nothing_declared : (start : Placed) → PartsTaken start start (parts_of [])
 nothing_declared start = ([], none_taken is_end ADeclaration start, refl)
 
 -- the next one goes wrong
-pub declaration_stops : (start old new : Placed) (parts : Parts) (e : Stop) → PartsTaken start old parts → is_end (next old) ≡ false
+pub declaration_stops : (start old new : Placed) (parts : Whole) (e : Stop) → PartsTaken start old parts → is_end (next old) ≡ false
     → Reads any ADeclarationOf old (Err e) new → Reads is_end AllDeclared start (Err e) new
 declaration_stops start old new parts e inv other s =
     let one = stop_lifts any ADeclaration ADeclarationOf old old new [] declaration_of e (declaration_resumes old.tokens) (past_none old) s in
@@ -120,7 +120,7 @@ declaration_stops start old new parts e inv other s =
     (many_stops is_end ADeclaration start old new inv.0 e inv.1 other one)
 
 -- and one more
-pub declaration_taken : (start old mid : Placed) (parts more : Parts) (d : Declaration) → PartsTaken start old parts → is_end (next old) ≡ false
+pub declaration_taken : (start old mid : Placed) (parts more : Whole) (d : Declaration) → PartsTaken start old parts → is_end (next old) ≡ false
     → Taken any ADeclarationOf old mid d → more ≡ with_declaration (declaration_of d) parts → PartsTaken start mid more
 declaration_taken start old mid parts more d inv other t pushed =
     let one = taken_lifts any ADeclaration ADeclarationOf old old mid [] declaration_of d (declaration_resumes old.tokens) (past_none old) t in (
@@ -130,7 +130,7 @@ declaration_taken start old mid parts more d inv other t pushed =
     )
 
 -- the end is next
-pub all_declared : (start now : Placed) (parts : Parts) → PartsTaken start now parts → is_end (next now) ≡ true → Taken is_end AllDeclared start now parts
+pub all_declared : (start now : Placed) (parts : Whole) → PartsTaken start now parts → is_end (next now) ≡ true → Taken is_end AllDeclared start now parts
 all_declared start now parts inv ends =
     subst (Taken is_end AllDeclared start now) (sym inv.2)
     (taken_lifts is_end AllDeclared (Many ADeclaration) start start now [] parts_of inv.0 (means_resumes is_end parts_of (Many ADeclaration) start.tokens) (past_none start)

@@ -6,8 +6,8 @@ use Rattle.std.proofs.lemmas.Option.{slice_get-get_or}
 use Rattle.hhas_lex.specs.Spelling.{is_proper}
 use Rattle.hhas_lex.specs.Tokens.{Token, Directive, Word, Local, Integer, Str, Mark, LessEqual, End, Bad, tokens, places, front, front_place}
 use Rattle.hhas_lex.proofs.Ending.{places-each}
-use Rattle.hhbc_repo.specs.declared.parts.Parts.{Parts}
 use Rattle.hhbc_repo.specs.Languages.{Lang, Behind, Ended}
+use Rattle.hhbc_repo.specs.LinkFaults.{Whole}
 use Rattle.hhbc_repo.specs.TextSyntax.{AText, FirstFault, IsFront, Spells}
 use Rattle.hhas_read.specs.TextWithoutEnd.{DeclaredText, is_end}
 use Rattle.hhas_read.specs.Reading.{Placed, Dead, StuckAt, Taken, Viable, next}
@@ -31,7 +31,7 @@ module _ {V : Type 0} (words : List Token) (A : Lang V) (end : List Token) where
     tokens = k.tokens ∙ ap (λ l. l ++ end) k.word.tokens ∙ append_assoc words k.word.rest end;
   }
 
-pub text-ended : (ts : List Token) (r : Parts) → AText ts r → Ended DeclaredText (End ∷ []) ts r
+pub text-ended : (ts : List Token) (r : Whole) → AText ts r → Ended DeclaredText (End ∷ []) ts r
 text-ended ts r k =
     let e = behind-ended _ _ (End ∷ []) ts k.declared k.word in
     record {
@@ -40,7 +40,7 @@ text-ended ts r k =
       tokens = e.tokens;
     }
 
-pub ended-text : (ts : List Token) (r : Parts) → Ended DeclaredText (End ∷ []) ts r → AText ts r
+pub ended-text : (ts : List Token) (r : Whole) → Ended DeclaredText (End ∷ []) ts r → AText ts r
 ended-text ts r k = record {
   declared = k.word.declared;
   word = ended-behind _ _ (End ∷ []) ts k.word.declared (record { first = k.first; word = k.word.word; tokens = k.tokens });
@@ -65,7 +65,7 @@ end-there : (ts : List Token) → is_end (front ts) ≡ true → ts ≡ End ∷ 
 end-there [] e = absurd (cc)
 end-there (t ∷ ts) e = ap (λ z. z ∷ ts) (end-alone t e)
 
-pub taken_spells : (bytes : List ℕ) (old new : Placed) (r : Parts) → old.tokens ≡ tokens bytes → Taken is_end DeclaredText old new r → Spells bytes r
+pub taken_spells : (bytes : List ℕ) (old new : Placed) (r : Whole) → old.tokens ≡ tokens bytes → Taken is_end DeclaredText old new r → Spells bytes r
 taken_spells bytes old new r are k =
     let there : tokens bytes ≡ k.used ++ End ∷ drop 1 new.tokens = sym are ∙ k.past.tokens ∙ ap (λ l. k.used ++ l) (end-there new.tokens k.follows) in
     let none : drop 1 new.tokens ≡ [] = (parted bytes k.used (drop 1 new.tokens) End there).alone refl in
@@ -122,7 +122,7 @@ stuck_faults bytes old new are placed some k =
 
 -- ---- a text spells one repository, or has one fault
 
-pub spells_one : Lawful is_end DeclaredText → (bytes : List ℕ) (r s : Parts) → Spells bytes r → Spells bytes s → r ≡ s
+pub spells_one : Lawful is_end DeclaredText → (bytes : List ℕ) (r s : Whole) → Spells bytes r → Spells bytes s → r ≡ s
 spells_one law bytes r s m n =
     let a = text-ended (tokens bytes) r m in
     let b = text-ended (tokens bytes) s n in

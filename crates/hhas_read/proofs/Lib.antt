@@ -80,3 +80,5 @@ pub mod DeclarationForms
 pub mod DeclaredLaws
 pub mod Endings
 pub mod FirstFaults
+pub mod FittingTexts
+pub mod ReadBack

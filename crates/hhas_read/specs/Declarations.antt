@@ -1,8 +1,8 @@
 -- How the reader's declarations stand for those of the grammar.
 use Rattle.std.specs.Prelude.{List, [], ◌∷◌, ◌++◌, codes, pos}
 use Rattle.hhas_lex.specs.Tokens.{Directive, Integer, Mark}
-use Rattle.hhbc_repo.specs.declared.parts.Parts.{Parts}
 use Rattle.hhbc_repo.specs.Languages.{Lang, Says}
+use Rattle.hhbc_repo.specs.LinkFaults.{Whole}
 use Rattle.hhbc_repo.specs.TextSyntax as grammar
 use Rattle.hhbc_repo.specs.TextSyntax.{ADeclaration, classes_of, functions_of}
 use Rattle.hhas_read.specs.declared.declarations.Declaration.{Declaration}
@@ -16,13 +16,13 @@ abbrev pub ADeclarationOf : Lang Declaration
 ADeclarationOf ts d = ADeclaration ts (declaration_of d)
 
 -- the functions and the classes, each in their order
-abbrev pub parts_of : List grammar.Declaration → Parts
+abbrev pub parts_of : List grammar.Declaration → Whole
 parts_of ds = record { functions = functions_of ds; classes = classes_of ds }
 
 -- and one more
-abbrev pub with_declaration : grammar.Declaration → Parts → Parts
-with_declaration (grammar.AsFunction b) r = record r { functions = r.functions ++ b ∷ [] }
-with_declaration (grammar.AsClass c) r = record r { classes = r.classes ++ c ∷ [] }
+abbrev pub with_declaration : grammar.Declaration → Whole → Whole
+with_declaration (grammar.AsFunction b) w = record w { functions = w.functions ++ b ∷ [] }
+with_declaration (grammar.AsClass c) w = record w { classes = w.classes ++ c ∷ [] }
 
 -- with which each text begins
 abbrev pub Profile : Lang (Unit {0})

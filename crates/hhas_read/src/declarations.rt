@@ -1,7 +1,8 @@
 //! Texts without their end.
 
-ghost use Rattle.std.specs.Prelude.{◌≡◌, [], OnOk, pos};
+ghost use Rattle.std.specs.Prelude.{◌≡◌, [], OnOk, pos, true};
 ghost use Rattle.hhas_lex.specs.Tokens.{Integer};
+ghost use Rattle.hhbc_repo.specs.Fits.{parts_fit};
 ghost use Rattle.hhbc_repo.specs.Languages.{Many, Means};
 ghost use Rattle.hhbc_repo.specs.TextSyntax.{ADeclaration};
 ghost use Rattle.hhas_read.specs.Declarations.{ADeclarationOf, Profile, declaration_of, parts_of, with_declaration};
@@ -12,6 +13,7 @@ use crate::reader::{Piece, Reader, Stop};
 use hack_values::{NoMemory, Seq};
 use hhbc_repo::{BodyParts, ClassParts, Parts};
 use std::alloc::Global;
+use std::marker::Model;
 
 /// What stands in a text.
 #[derive(Debug, Drop)]
@@ -20,22 +22,55 @@ pub enum Declaration {
     Class(ClassParts),
 }
 
-/// No functions and no classes.
-fn no_parts(alloc: Global) -> Parts
-    ensures { result ≡ parts_of [] }
-{
-    Parts {
-        functions: Seq::new(alloc),
-        classes: Seq::new(alloc),
-    }
+/// Functions and classes, each in the order in which they stand in a text.
+#[derive(Drop)]
+pub struct Collected {
+    functions: Seq<BodyParts>,
+    classes: Seq<ClassParts>,
 }
 
-fn add(parts: &mut Parts, declaration: Declaration) -> Result<(), NoMemory>
-    ensures { OnOk result (parts.new ≡ with_declaration (declaration_of declaration) parts.old) }
-{
-    match declaration {
-        Declaration::Function(function) => parts.functions.push(function),
-        Declaration::Class(class) => parts.classes.push(class),
+impl Model for Collected {
+    ghost use Rattle.hhbc_repo.specs.LinkFaults.{Whole};
+
+    ghost Value = { Whole };
+
+    ghost use Rattle.std.specs.Coded.{codes};
+    ghost use Rattle.hack_values.specs.Code.{coded_val, coded_key};
+
+    ghost coded = { Prim.hlevel (codes, coded_val, coded_key) };
+
+    ghost view = { λ c. record { functions = c.functions; classes = c.classes } };
+}
+
+impl Collected {
+    /// No functions and no classes.
+    fn new(alloc: Global) -> Collected
+        ensures { result ≡ parts_of [] }
+    {
+        Collected {
+            functions: Seq::new(alloc),
+            classes: Seq::new(alloc),
+        }
+    }
+
+    fn add(&mut self, declaration: Declaration) -> Result<(), NoMemory>
+        ensures { OnOk result (self.new ≡ with_declaration (declaration_of declaration) self.old) }
+    {
+        match declaration {
+            Declaration::Function(function) => self.functions.push(function),
+            Declaration::Class(class) => self.classes.push(class),
+        }
+    }
+
+    /// The parts of a whole text.
+    pub fn into_parts(self) -> Parts
+        requires { parts_fit self.functions self.classes ≡ true }
+        ensures { self ≡ record { functions = result.functions; classes = result.classes } }
+    {
+        Parts {
+            functions: self.functions,
+            classes: self.classes,
+        }
     }
 }
 
@@ -93,19 +128,19 @@ impl<'a> Reader<'a> {
     }
 
     /// Functions and classes until the end of the text.
-    fn declared(&mut self, alloc: Global) -> Result<Parts, Stop>
+    fn declared(&mut self, alloc: Global) -> Result<Collected, Stop>
         ensures { Reads is_end (Means parts_of (Many ADeclaration)) self.old result self.new }
     {
-        let mut parts = no_parts(alloc);
+        let mut parts = Collected::new(alloc);
         while !self.is_end() {
             let declaration = self.declaration(alloc)?;
-            add(&mut parts, declaration)?;
+            parts.add(declaration)?;
         }
         Ok(parts)
     }
 
     /// A text without its end, which is only looked at.
-    pub fn declarations(&mut self, alloc: Global) -> Result<Parts, Stop>
+    pub fn declarations(&mut self, alloc: Global) -> Result<Collected, Stop>
         ensures { Reads is_end DeclaredText self.old result self.new }
     {
         match self.profile() {

@@ -45,7 +45,7 @@ fn are_numbered(classes: &[ClassParts]) -> bool
 
 /// Links what was read.
 fn linked(alloc: Global, parts: Parts) -> Result<Repo, ReadFault>
-    ensures { LinksParts parts result }
+    ensures { LinksParts (record { functions = parts.functions; classes = parts.classes }) result }
 {
     if !are_numbered(parts.classes.as_slice()) {
         return Err(ReadFault::NoMemory);

@@ -5,7 +5,7 @@ use Rattle.hhas_read.proofs.DeclarationForms.{AllDeclared, PartsTaken, all_decla
 use Rattle.hhas_read.proofs.reader.Reader.declared.Goals as goal
 
 pub loop-alloc-init : goal.loop-alloc-init
-loop-alloc-init c = subst (PartsTaken c.args.self.now c.args.self.now) (sym c.no_parts-parts.ensures) (nothing_declared c.args.self.now)
+loop-alloc-init c = subst (PartsTaken c.args.self.now c.args.self.now) (sym c.new-parts.ensures) (nothing_declared c.args.self.now)
 
 pub returns-in_err-declaration : goal.returns-in_err-declaration
 returns-in_err-declaration c =
@@ -15,7 +15,7 @@ returns-in_err-declaration c =
 
 pub loop-alloc-preserved : goal.loop-alloc-preserved
 loop-alloc-preserved c =
-    declaration_taken c.args.self.now c.loop-alloc.self c.declaration.new.self c.loop-alloc.parts c.add.new.parts c.in_ok-declaration.declaration c.loop-alloc.invariant
+    declaration_taken c.args.self.now c.loop-alloc.self c.declaration.new.self c.loop-alloc.parts c.add.new.self c.in_ok-declaration.declaration c.loop-alloc.invariant
     (sym c.loop-alloc-test.ensures) c.in_ok-declaration.ensures c.in_ok-add.ensures
 
 pub returns : goal.returns
