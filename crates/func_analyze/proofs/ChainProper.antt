@@ -17,10 +17,10 @@ use Rattle.abstract_step.specs.Flow.{Row, with_type, with_local_type, op_row}
 use Rattle.func_analyze.specs.Chain.{no_repo, no_facts, row_of, if_alive, state_behind, returned_by, returned_at_end}
 use Rattle.func_analyze.specs.Laws.{IsWord, AreWords}
 
-abbrev Proper : HType → Type 0
+abbrev pub Proper : HType → Type 0
 Proper t = IsProper built_in_tree t
 
-abbrev AllProper : List HType → Type 0
+abbrev pub AllProper : List HType → Type 0
 AllProper [] = Unit {0}
 AllProper (t ∷ ts) = Proper t × AllProper ts
 
@@ -56,20 +56,20 @@ put [] i t h k = tt
 put (x ∷ ts) zero t h k = (k, h.1)
 put (x ∷ ts) (suc i) t h k = (h.0, put ts i t h.1 k)
 
-abbrev ProperIf : Option HType → Type 0
+abbrev pub ProperIf : Option HType → Type 0
 ProperIf None = Unit {0}
 ProperIf (Some t) = Proper t
 
-got : (ts : List HType) (i : ℕ) → AllProper ts → ProperIf (slice_get ts i)
+pub got : (ts : List HType) (i : ℕ) → AllProper ts → ProperIf (slice_get ts i)
 got [] i h = tt
 got (x ∷ ts) zero h = h.0
 got (x ∷ ts) (suc i) h = got ts i h.1
 
-record ProperState (s : State) : Type 0 where
+pub record ProperState (s : State) : Type 0 where
   pub locals : AllProper s.locals
   pub stack : AllProper s.stack
 
-abbrev ProperStateIf : Option State → Type 0
+abbrev pub ProperStateIf : Option State → Type 0
 ProperStateIf None = Unit {0}
 ProperStateIf (Some s) = ProperState s
 
@@ -116,7 +116,7 @@ alive_proper (Some s) h = by_life (is_alive s)
     by_life true = h
     by_life false = tt
 
-behind_proper : (c : Code) (o : Option State) → IsWord c → ProperStateIf o → ProperStateIf (state_behind c o)
+pub behind_proper : (c : Code) (o : Option State) → IsWord c → ProperStateIf o → ProperStateIf (state_behind c o)
 behind_proper c None h k = tt
 behind_proper c (Some s) h k = alive_proper (row_of c s).behind (row_proper c s h k).behind
 
@@ -129,11 +129,13 @@ end_proper [] o h k = never_proper
 end_proper (p ∷ []) o h k = returned_proper p.code o h.0 k
 end_proper (p ∷ q ∷ ps) o h k = end_proper (q ∷ ps) (state_behind p.code o) h.1 (behind_proper p.code o h.0 k)
 
+-- what enters a body has proper types
+pub entry_proper : (b : Body) → ProperState (entry_state b)
+entry_proper b = record {
+  locals = all_same b.params cell (replicate (length b.locals - b.params) uninit) cell_proper (replicated _ uninit uninit_proper);
+  stack = tt;
+}
+
 -- what the body returns is a proper type
 pub returned_is_proper : (b : Body) → AreWords b.positions → IsProper built_in_tree (returned_at_end b.positions (Some (entry_state b)))
-returned_is_proper b h =
-    end_proper b.positions (Some (entry_state b)) h
-    (record {
-      locals = all_same b.params cell (replicate (length b.locals - b.params) uninit) cell_proper (replicated _ uninit uninit_proper);
-      stack = tt;
-    })
+returned_is_proper b h = end_proper b.positions (Some (entry_state b)) h (entry_proper b)

@@ -16,3 +16,4 @@ mod Unique
 pub mod Putting
 pub mod RoundResults
 pub mod SecondForm
+pub mod SpellingKept

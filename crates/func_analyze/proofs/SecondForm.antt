@@ -26,7 +26,7 @@ pub bare_chain_annotates : BareChainAnnotates
 bare_chain_annotates r form n =
     same_bare (suc n) (bare r) r (annotated_by (bare r)) (bare_again r) (chain_annotates (bare r) (bare_is_first_form r form).0 n)
 
-bare_words : (ps : List Position) → AreWords ps → AreWords (map bare_position ps)
+pub bare_words : (ps : List Position) → AreWords ps → AreWords (map bare_position ps)
 bare_words [] h = tt
 bare_words (p ∷ ps) h = (h.0, bare_words ps h.1)
 

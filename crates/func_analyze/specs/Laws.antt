@@ -10,6 +10,7 @@ use Rattle.hhbc_repo.specs.Form.{IsFirstForm, IsSecondForm}
 use Rattle.hhbc_repo.specs.Bare.{bare}
 use Rattle.hhbc_repo.specs.Truth.{Facts, AreTrue, IsNeverStuck, IsFaithful}
 use Rattle.hhbc_repo.specs.Shapes.{Types}
+use Rattle.hhbc_repo.specs.Spelled.{HasSpelling}
 use Rattle.abstract_step.specs.State.{entry_state}
 use Rattle.func_analyze.specs.Solution.{IsLeast}
 use Rattle.func_analyze.specs.Rounds.{IsFacts}
@@ -59,3 +60,7 @@ SecondIsFaithful = (r a : Linked) → IsSecondForm r → Types r → (n : ℕ) �
 -- a repository of the second form has one annotated repository
 abbrev pub SecondIsUnique : Type 0
 SecondIsUnique = (r a : Linked) (form : IsSecondForm r) → AreWords form.body.positions → (n : ℕ) → IsAnnotated (suc n) r a → a ≡ annotated_by (bare r)
+
+-- a repository of the second form that has a spelling has one when it is annotated
+abbrev pub AnnotatedHasSpelling : Type 0
+AnnotatedHasSpelling = (r : Linked) → IsSecondForm r → HasSpelling r → HasSpelling (annotated_by (bare r))

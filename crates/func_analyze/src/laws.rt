@@ -1,6 +1,6 @@
 //! Laws of the definitions, each the contract of a function that does nothing.
 
-ghost use Rattle.func_analyze.specs.Laws.{AnnotatedIsFaithful, AnnotatedIsUnique, BareChainAnnotates, ChainAnnotates, ChainIsLeast, FactsAreTrue, SecondIsFaithful, SecondIsUnique};
+ghost use Rattle.func_analyze.specs.Laws.{AnnotatedHasSpelling, AnnotatedIsFaithful, AnnotatedIsUnique, BareChainAnnotates, ChainAnnotates, ChainIsLeast, FactsAreTrue, SecondIsFaithful, SecondIsUnique};
 ghost use Rattle.func_analyze.specs.TypeAnalysis.{FramesLie};
 
 /// The states along a body without jumps, each made from the one before it, are its least solution.
@@ -55,4 +55,9 @@ pub fn second_is_faithful()
 /// number of rounds from 1.
 pub fn second_is_unique()
     ensures { SecondIsUnique }
+{}
+
+/// The annotated repository of the second form has a spelling where the repository has one.
+pub fn annotated_has_spelling()
+    ensures { AnnotatedHasSpelling }
 {}

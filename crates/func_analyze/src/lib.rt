@@ -11,8 +11,9 @@ mod tests;
 mod worklist;
 
 pub use laws::{
-    annotated_is_faithful, annotated_is_unique, bare_chain_annotates, chain_annotates,
-    chain_is_least, facts_are_true, frames_lie, second_is_faithful, second_is_unique,
+    annotated_has_spelling, annotated_is_faithful, annotated_is_unique, bare_chain_annotates,
+    chain_annotates, chain_is_least, facts_are_true, frames_lie, second_is_faithful,
+    second_is_unique,
 };
 pub use problem::Problem;
 pub use round_laws::{
