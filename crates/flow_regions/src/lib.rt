@@ -8,6 +8,3 @@ mod regions;
 pub use blocks::block_starts;
 pub use edge::{Edge, edges_of, edges_with};
 pub use regions::{handler_of, handlers};
-
-#[cfg(test)]
-mod tests;

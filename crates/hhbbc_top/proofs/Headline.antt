@@ -10,6 +10,8 @@ use Rattle.hhbc_repo.specs.declared.body.Body.{Body}
 use Rattle.hhbc_repo.specs.declared.body.Position.{Position}
 use Rattle.hhbc_repo.specs.Linked.{Linked}
 use Rattle.hhbc_repo.specs.Bare.{bare, bare_position}
+use Rattle.hhbc_repo.specs.CanonicalText.{canonical_text}
+use Rattle.hhbc_repo.specs.Spelled.{HasSpelling}
 use Rattle.hhbc_repo.specs.Form.{IsSecondForm}
 use Rattle.hhbc_repo.specs.Shapes.{Types, ShapeKind, FailsAt, IsFirstFault, fault_at}
 use Rattle.hhbc_repo.specs.Bodies.{bodies, body_at}
@@ -19,7 +21,7 @@ use Rattle.hhbc_repo.specs.Outcome as outcomes
 use Rattle.hhbc_repo.specs.Outcome.{Outcome, Underflow}
 use Rattle.hhbc_repo.specs.Run.{Result as Ran, run}
 use Rattle.hhas_read.specs.LinkedTexts.{LinksWithFault, ReadsRepository}
-use Rattle.func_analyze.specs.Laws.{AreWords, BareChainAnnotates, SecondIsFaithful, SecondIsUnique}
+use Rattle.func_analyze.specs.Laws.{AnnotatedHasSpelling, AreWords, BareChainAnnotates, SecondIsFaithful, SecondIsUnique}
 use Rattle.func_analyze.specs.Annotated.{IsAnnotated}
 use Rattle.func_analyze.specs.Chain.{annotated_by}
 use Rattle.hhbbc_top.specs.declared.form.Line.{Line}
@@ -67,6 +69,13 @@ pub record Laws : Type 0 where
   pub annotates : BareChainAnnotates
   pub faithful : SecondIsFaithful
   pub unique : SecondIsUnique
+  pub spelled : (bytes : List ℕ) (r : Linked) → ReadsRepository bytes r → HasSpelling r
+  pub back : (r : Linked) → HasSpelling r → ReadsRepository (canonical_text r) r
+  pub kept : AnnotatedHasSpelling
+
+-- the annotated repository of the function of a repository has a spelling
+pub annotated-spelled : AnnotatedHasSpelling → (r : Linked) (m : Main) → IsMainOf r m → HasSpelling r → HasSpelling (annotated_by (bare_repo_of m))
+annotated-spelled kept r m h s = subst (λ (q : Linked). HasSpelling (annotated_by q)) (ap bare h.is ∙ bare-is m) (kept r h.form s)
 
 annotated-text : Laws → (bytes : List ℕ) (r : Linked) (m : Main) (out : List ℕ) → ReadsRepository bytes r → IsMainOf r m → out ≡ annotated_text m → IsAnnotatedText bytes out
 annotated-text laws bytes r m out a h written =
@@ -81,6 +90,7 @@ annotated-text laws bytes r m out a h written =
       unique = λ other w. subst (λ (s : Linked). other ≡ annotated_by s) bare-of (laws.unique r other h.form h.words 9 w);
       faithful = laws.faithful r (annotated_by (bare_repo_of m)) h.form h.types 9 is;
       written = written;
+      again = subst (λ (o : List ℕ). ReadsRepository o (annotated_by (bare_repo_of m))) (sym written) (laws.back (annotated_by (bare_repo_of m)) (annotated-spelled laws.kept r m h (laws.spelled bytes r a)));
     }
 
 -- what a command makes of the function of a text is what it answers to the text
@@ -118,6 +128,7 @@ given-as laws Format bytes r a w t h = (
     reads = w;
     only = λ other v. one-repository laws.one bytes other r v w;
     written = h.written;
+    again = subst (λ (o : List ℕ). ReadsRepository o r) (sym h.written) (laws.back r (laws.spelled bytes r w));
   },
   h.line,
 )

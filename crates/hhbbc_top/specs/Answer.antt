@@ -96,6 +96,8 @@ pub record IsAnnotatedText (bytes out : List ℕ) : Type 0 where
   pub unique : (other : Linked) → IsAnnotated rounds repo other → other ≡ annotated
   pub faithful : IsFaithful repo annotated
   pub written : out ≡ canonical_text annotated
+  -- which is read as it
+  pub again : ReadsRepository out annotated
 
 -- how main runs with so many steps at most, without arguments
 abbrev pub ran : Linked → ℕ → Bool → Ran
@@ -122,12 +124,13 @@ pub record IsCheckedText (bytes out : List ℕ) : Type 0 where
   pub only : (other : Linked) → ReadsRepository bytes other → other ≡ repo
   pub written : out ≡ counts_line repo
 
--- the canonical text of the repository of the text
+-- the canonical text of the repository of the text, which is read as the same repository
 pub record IsFormattedText (bytes out : List ℕ) : Type 0 where
   pub repo : Linked
   pub reads : ReadsRepository bytes repo
   pub only : (other : Linked) → ReadsRepository bytes other → other ≡ repo
   pub written : out ≡ canonical_text repo
+  pub again : ReadsRepository out repo
 
 -- what a command answers to a text whose repository it goes on with
 abbrev pub Answers : Command → List ℕ → Status → List ℕ → List ℕ → Type 0

@@ -1,8 +1,8 @@
 -- Texts by what they spell: a repository, and one of the form that is annotated and run.
 use Rattle.std.specs.Prelude.{◌≡◌, ℕ, List}
-use Rattle.hhbc_repo.specs.declared.parts.Parts.{Parts}
 use Rattle.hhbc_repo.specs.Linked.{Linked}
 use Rattle.hhbc_repo.specs.Form.{IsSecondForm}
+use Rattle.hhbc_repo.specs.LinkFaults.{Whole}
 use Rattle.hhbc_repo.specs.Shapes.{Types}
 use Rattle.hhbc_repo.specs.TextSyntax.{FirstFault, Spells}
 use Rattle.hhas_read.specs.LinkedTexts.{ReadsRepository}
@@ -15,8 +15,8 @@ pub record IsReadText (bytes : List ℕ) (r : Linked) : Type 0 where
 
 -- a text spells one list of parts at most
 abbrev pub SpellsOne : Type 0
-SpellsOne = (bytes : List ℕ) (r s : Parts) → Spells bytes r → Spells bytes s → r ≡ s
+SpellsOne = (bytes : List ℕ) (r s : Whole) → Spells bytes r → Spells bytes s → r ≡ s
 
 -- a text that spells parts has no fault
 abbrev pub SpelledIsFaultless : Type 0
-SpelledIsFaultless = (bytes : List ℕ) (r : Parts) (at : ℕ) → Spells bytes r → FirstFault bytes at → ⊥
+SpelledIsFaultless = (bytes : List ℕ) (r : Whole) (at : ℕ) → Spells bytes r → FirstFault bytes at → ⊥

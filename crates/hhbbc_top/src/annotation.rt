@@ -1,10 +1,12 @@
 //! Types along the codes of a text, and the repository that states them.
 
-ghost use Rattle.std.specs.Prelude.{◌≡◌, ◌<◌, ◌^◌, ◌++◌, [], ◌∷◌, map, reverse, length, replicate, slice_get, slice_set, IfOk, OnOk, Some};
+ghost use Rattle.std.specs.Prelude.{◌≡◌, ◌<◌, ◌^◌, ◌++◌, [], ◌∷◌, true, map, reverse, length, replicate, slice_get, slice_set, IfOk, OnOk, Some};
 ghost use Rattle.type_lattice.specs.Types as types;
 ghost use Rattle.type_lattice.specs.Never.{no_ints, no_strs, no_objs, is_never, all_alive};
 ghost use Rattle.type_lattice.specs.Whole.{is_whole};
 ghost use Rattle.abstract_step.specs.State as states;
+ghost use Rattle.hhbc_repo.specs.Ranges.{few_iterators};
+ghost use Rattle.hhbc_repo.specs.Spelled.{HasSpelling};
 ghost use Rattle.func_analyze.specs.Annotated as annotated;
 ghost use Rattle.func_analyze.specs.Chain as along;
 ghost use Rattle.hhbbc_top.specs.Forms.{code_of, bare_of, plain, bare_repo_of, state_of, if_reached};
@@ -333,9 +335,10 @@ fn positions(
     Ok((done, last))
 }
 
-/// The repository of one function, with the types along it stated in place of its own claims.
-pub fn annotated(alloc: Global, main: Main) -> Result<Repo, NoMemory>
-    ensures { IfOk result (λ repo. repo ≡ along.annotated_by (bare_repo_of main)) }
+/// The function with the types along it stated in place of its own claims.
+fn stated_main(alloc: Global, main: Main) -> Result<Body, NoMemory>
+    ensures is { IfOk result (λ body. record { functions = body ∷ []; classes = [] } ≡ along.annotated_by (bare_repo_of main)) }
+    ensures few { IfOk result (λ body. few_iterators body ≡ true) }
 {
     let Main {
         stated: _,
@@ -344,8 +347,7 @@ pub fn annotated(alloc: Global, main: Main) -> Result<Repo, NoMemory>
     } = main;
     let types = entry(alloc, locals.as_slice().len())?;
     let (positions, returned) = positions(alloc, codes.as_slice(), types)?;
-    let mut functions = Seq::new(alloc);
-    functions.push(Body {
+    Ok(Body {
         name: Text::from_bytes(alloc, b"main")?,
         params: 0,
         locals,
@@ -353,7 +355,17 @@ pub fn annotated(alloc: Global, main: Main) -> Result<Repo, NoMemory>
         stated: Some(returned),
         positions,
         regions: Seq::new(alloc),
-    })?;
+    })
+}
+
+/// The repository of one function, with the types along it stated in place of its own claims.
+pub fn annotated(alloc: Global, main: Main) -> Result<Repo, NoMemory>
+    requires { HasSpelling (along.annotated_by (bare_repo_of main)) }
+    ensures { IfOk result (λ repo. repo ≡ along.annotated_by (bare_repo_of main)) }
+{
+    let body = stated_main(alloc, main)?;
+    let mut functions = Seq::new(alloc);
+    functions.push(body)?;
     let repo = Repo::new(alloc, functions, Seq::new(alloc))?;
     Ok(repo)
 }

@@ -15,6 +15,8 @@ mod tests;
 #[cfg(test)]
 mod tests_formats;
 #[cfg(test)]
+mod tests_repositories;
+#[cfg(test)]
 mod tests_shapes;
 mod top;
 mod words;

@@ -76,9 +76,7 @@ const SHAPES: &[(&[Piece], Status, &[u8])] = &[
         b"bad shape StackTooDeep main 257\n",
     ),
     (
-        &[Once(
-            b"main(){.declvars $v;.numiters 1;Null IterInit 0 V:$v L Int 1 L: Null RetC}",
-        )],
+        &[Once(b"main(){.declvars $v;.numiters 1;Null IterInit 0 V:$v L Int 1 L: Null RetC}")],
         Status::BadShape,
         b"bad shape DepthMismatch main 2\n",
     ),
@@ -101,9 +99,7 @@ const SHAPES: &[(&[Piece], Status, &[u8])] = &[
         b"bad shape IteratorMismatch main 3922\n",
     ),
     (
-        &[Once(
-            b"main(){Null RetC PopC} .function f(){} .class A{.method m(){PopC}}",
-        )],
+        &[Once(b"main(){Null RetC PopC} .function f(){} .class A{.method m(){PopC}}")],
         Status::BadShape,
         b"bad shape Underflow main 2\n",
     ),
@@ -113,9 +109,7 @@ const SHAPES: &[(&[Piece], Status, &[u8])] = &[
         b"bad shape FallsOff main 0\n",
     ),
     (
-        &[Once(
-            b"f(){Null RetC} .class A{.method m(){RetC}} .function main(){Null PopC}",
-        )],
+        &[Once(b"f(){Null RetC} .class A{.method m(){RetC}} .function main(){Null PopC}")],
         Status::BadShape,
         b"bad shape FallsOff main 1\n",
     ),
@@ -183,9 +177,7 @@ const SHAPES: &[(&[Piece], Status, &[u8])] = &[
         b"bad link OverLimit main locals 256\n",
     ),
     (
-        &[Once(
-            b"main(){.declvars $x;Int 2 SetL $x PopC CGetL $x Int 3 Add RetC}",
-        )],
+        &[Once(b"main(){.declvars $x;Int 2 SetL $x PopC CGetL $x Int 3 Add RetC}")],
         Status::Done,
         b"functions 1 methods 0 classes 0 positions 7\n",
     ),
@@ -242,7 +234,14 @@ fn expect_checked(
     } else {
         (b"".as_slice(), line)
     };
-    expect(rt, alloc, &[CHECK], text.as_bytes(), NONE, (status, out, err))
+    expect(
+        rt,
+        alloc,
+        &[CHECK],
+        text.as_bytes(),
+        NONE,
+        (status, out, err),
+    )
 }
 
 #[test]

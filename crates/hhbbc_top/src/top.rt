@@ -8,11 +8,13 @@ ghost use Rattle.hh_io.specs.Sinks.{Takes, TakesPart};
 ghost use Rattle.hhas_read.specs.LinkedTexts.{IsReadFault};
 ghost use Rattle.hhbc_repo.specs.Linked.{Linked};
 ghost use Rattle.hhbc_repo.specs.Shapes.{Types};
+ghost use Rattle.hhbc_repo.specs.Spelled.{HasSpelling};
 ghost use Rattle.hhbc_repo.specs.Truth.{IsNeverStuck};
+ghost use Rattle.func_analyze.specs.Chain.{annotated_by};
 ghost use Rattle.stack_verify.specs.Verified.{IsRefused};
 ghost use Rattle.hhbbc_top.specs.Answer as answers;
 ghost use Rattle.hhbbc_top.specs.Commands as commands;
-ghost use Rattle.hhbbc_top.specs.Forms.{repo_of};
+ghost use Rattle.hhbbc_top.specs.Forms.{bare_repo_of, repo_of};
 ghost use Rattle.hhbbc_top.specs.Words.{command_of};
 
 use crate::annotation::annotated;
@@ -23,10 +25,15 @@ use crate::machine::{Ending, run};
 use crate::report::report_of;
 use crate::status::{Status, line_of};
 use crate::words::{Command, command_of};
-use func_analyze::{bare_chain_annotates, second_is_faithful, second_is_unique};
+use func_analyze::{
+    annotated_has_spelling, bare_chain_annotates, second_is_faithful, second_is_unique,
+};
 use hack_values::{NoMemory, Text};
 use hh_io::{ReadError, Sink, Source, read_all, write_all};
-use hhas_read::{ReadFault, first_fault_is_one, read_text, text_spells_one_repository};
+use hhas_read::{
+    ReadFault, canonical_texts_are_read_back, first_fault_is_one, read_text,
+    text_spells_one_repository,
+};
 use hhas_write::write_text;
 use hhbc_repo::{Repo, second_form_never_sticks};
 use stack_verify::{VerifyFault, verify};
@@ -126,7 +133,9 @@ fn answer_to(alloc: Global, command: Command, text: &Text) -> Result<Answer, Sta
     bare_chain_annotates();
     second_is_faithful();
     second_is_unique();
+    annotated_has_spelling();
     text_spells_one_repository();
+    canonical_texts_are_read_back();
     match read_text(alloc, text) {
         Ok(repo) => judged(alloc, command, repo),
         Err(fault) => fault_told(alloc, fault),
@@ -247,6 +256,8 @@ fn analyzed(alloc: Global, repo: &Repo) -> Result<Answer, Status>
     requires { Types repo.now }
     ensures { commands.Serves Command.Analyze repo.now result }
 {
+    repo.has_spelling();
+    annotated_has_spelling();
     match main_of(alloc, repo) {
         Ok(main) => written(alloc, main),
         Err(unfit) => Err(status_of(unfit)),
@@ -267,6 +278,7 @@ fn main_run(alloc: Global, repo: &Repo, steps: u32, asserted: bool) -> Result<An
 
 /// The annotated text of a function.
 fn written(alloc: Global, main: Main) -> Result<Answer, Status>
+    requires { HasSpelling (annotated_by (bare_repo_of main)) }
     ensures { commands.Does Command.Analyze main result }
 {
     let Ok(repo) = annotated(alloc, main) else {

@@ -11,6 +11,3 @@ mod walk;
 
 pub use shape::{Shape, ShapeFault, ShapeKind, VerifyFault};
 pub use verified::{Verified, verify};
-
-#[cfg(test)]
-mod tests;

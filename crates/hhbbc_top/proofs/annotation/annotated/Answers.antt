@@ -1,14 +1,23 @@
-use Rattle.std.proofs.Common.{◌≡◌, ◌++◌, ◌∷◌, [], true, List, refl, ap, sym, subst₂, ◌∙◌}
+use Rattle.std.proofs.Common.{◌≡◌, ◌++◌, ◌∷◌, [], true, List, ap, sym, subst, subst₂, ◌∙◌}
 use Rattle.hhbc_repo.specs.declared.body.Body.{Body}
 use Rattle.hhbc_repo.specs.declared.repo.Class.{Class}
+use Rattle.hhbc_repo.specs.Linked.{Linked}
 use Rattle.hhbc_repo.specs.LookUps.{Sound}
 use Rattle.hhbc_repo.specs.Ranges.{few_iterators}
+use Rattle.hhbc_repo.specs.Spelled.{HasSpelling}
 use Rattle.hhbc_repo.proofs.OneFunction.{one_function}
 use Rattle.hhbbc_top.proofs.annotation.annotated.Goals as goal
 
-one_pushed : (before now : List Body) (classes : List Class) (b : Body) → now ≡ before ++ b ∷ [] → before ≡ [] → classes ≡ [] → few_iterators b ≡ true → Sound (record { functions = now; classes = classes })
-one_pushed before now classes b n e k h =
-    subst₂ (λ (fs : List Body) (cs : List Class). Sound (record { functions = fs; classes = cs })) (sym (n ∙ ap (λ (fs : List Body). fs ++ b ∷ []) e)) (sym k) (one_function b h)
+one_pushed : (P : Linked → Type 0) (before now : List Body) (classes : List Class) (b : Body) → now ≡ before ++ b ∷ [] → before ≡ [] → classes ≡ []
+    → P (record { functions = b ∷ []; classes = [] }) → P (record { functions = now; classes = classes })
+one_pushed P before now classes b n e k h =
+    subst₂ (λ (fs : List Body) (cs : List Class). P (record { functions = fs; classes = cs })) (sym (n ∙ ap (λ (fs : List Body). fs ++ b ∷ []) e)) (sym k) h
 
-pub new-requires-3 : goal.new-requires-3
-new-requires-3 c = one_pushed _ _ _ _ c.in_ok-push.ensures.ok c.new-functions.ensures c.new-2.ensures refl
+pub new-requires-2 : goal.new-requires-2
+new-requires-2 c =
+    let of = λ (P : Linked → Type 0) (h : P (record { functions = c.in_ok-body.body ∷ []; classes = [] })).
+    one_pushed P c.new-functions.result c.push.new.self c.new.result c.in_ok-body.body c.in_ok-push.ensures.ok c.new-functions.ensures c.new.ensures h in
+    record {
+      sound = of Sound (one_function c.in_ok-body.body c.in_ok-body.ensures.few);
+      spelled = of HasSpelling (subst HasSpelling (sym c.in_ok-body.ensures.is) c.requires);
+    }

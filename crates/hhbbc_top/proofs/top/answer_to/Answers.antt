@@ -9,6 +9,9 @@ returns-in-Ok c =
       annotates = c.bare_chain_annotates.ensures;
       faithful = c.second_is_faithful.ensures;
       unique = c.second_is_unique.ensures;
+      spelled = c.canonical_texts_are_read_back.ensures.spelled;
+      back = c.canonical_texts_are_read_back.ensures.reads;
+      kept = c.annotated_has_spelling.ensures;
     })
     c.args.command c.args.text.now c.in-Ok.repo c.judged.result c.in-Ok.ensures.repository c.judged.ensures
 

@@ -1,0 +1,69 @@
+//! Edges, blocks and shapes of repositories that are read: a jump past one code.
+
+use flow_regions::{Edge, block_starts, edges_of};
+use hack_values::Text;
+use hhas_read::read_text;
+use hhbc_repo::Repo;
+use stack_verify::{ShapeFault, ShapeKind, Verified, VerifyFault, verify};
+use std::alloc::Global;
+use std::process::Abort;
+use std::test::Fail;
+
+const TWO_DEPTHS: &[u8] = b".profile 1;.function main(){True JmpZ L0 Int 1 L0: Null RetC}";
+
+const ONE_DEPTH: &[u8] = b".profile 1;.function main(){True JmpZ L0 Nop L0: Null RetC}";
+
+fn read(rt: &impl Abort, alloc: Global, text: &[u8]) -> Result<Repo, Fail> {
+    let text = Text::from_bytes(alloc, text)?;
+    assert!(rt; text.bytes().len() < 1000);
+    match read_text(alloc, &text) {
+        Ok(repo) => Ok(repo),
+        Err(_) => panic!(rt; "the example isn't read"),
+    }
+}
+
+#[tactic(auto, using(flow_regions::proofs::Handled::counted))]
+#[test]
+fn a_jump_makes_blocks(rt: HostRuntime) -> Result<(), Fail> {
+    let alloc = rt.alloc();
+    let repo = read(&rt, alloc, TWO_DEPTHS)?;
+    assert!(rt; 0 < repo.bodies());
+    assert!(rt; 1 < repo.body(0).positions.as_slice().len());
+    let edges = edges_of(alloc, &repo, 0, 1)?;
+    assert_eq!(rt; edges.as_slice(), [Edge::Next(2), Edge::To(3)].as_slice());
+    let starts = block_starts(alloc, &repo, 0)?;
+    assert_eq!(rt; starts.as_slice(), [0, 2, 3].as_slice());
+    Ok(())
+}
+
+/// The slots at the label.
+fn slots_at_label(rt: &impl Abort, verified: &Verified) -> usize {
+    let repo = verified.repo();
+    assert!(rt; 0 < repo.bodies());
+    assert!(rt; 3 < repo.body(0).positions.as_slice().len());
+    verified.shape(0, 3).slots.as_slice().len()
+}
+
+#[test]
+fn a_label_has_one_depth(rt: HostRuntime) -> Result<(), Fail> {
+    let alloc = rt.alloc();
+    match verify(alloc, read(&rt, alloc, ONE_DEPTH)?) {
+        Ok(verified) => {
+            assert_eq!(rt; slots_at_label(&rt, &verified), 0);
+            assert_eq!(rt; verified.into_repo().bodies(), 1);
+        }
+        Err(_) => panic!(rt; "one depth is refused"),
+    }
+    match verify(alloc, read(&rt, alloc, TWO_DEPTHS)?) {
+        Err(VerifyFault::Shape(fault, _)) => {
+            let depths = ShapeFault {
+                body: 0,
+                position: 2,
+                kind: ShapeKind::DepthMismatch,
+            };
+            assert_eq!(rt; fault, depths)
+        }
+        _ => panic!(rt; "two depths are accepted"),
+    }
+    Ok(())
+}
