@@ -44,26 +44,37 @@ fn slots_at_label(rt: &impl Abort, verified: &Verified) -> usize {
     verified.shape(0, 3).slots.as_slice().len()
 }
 
+/// What `verify` makes of a text that keeps to its shapes.
+fn verified(rt: &impl Abort, alloc: Global, text: &[u8]) -> Result<Verified, Fail> {
+    match verify(alloc, read(rt, alloc, text)?) {
+        Ok(verified) => Ok(verified),
+        Err(_) => panic!(rt; "a fault of shapes"),
+    }
+}
+
+/// What `verify` says of a text that doesn't.
+fn shape_fault(rt: &impl Abort, alloc: Global, text: &[u8]) -> Result<ShapeFault, Fail> {
+    match verify(alloc, read(rt, alloc, text)?) {
+        Err(VerifyFault::Shape(fault, _)) => Ok(fault),
+        _ => panic!(rt; "no fault of shapes"),
+    }
+}
+
 #[test]
 fn a_label_has_one_depth(rt: HostRuntime) -> Result<(), Fail> {
-    let alloc = rt.alloc();
-    match verify(alloc, read(&rt, alloc, ONE_DEPTH)?) {
-        Ok(verified) => {
-            assert_eq!(rt; slots_at_label(&rt, &verified), 0);
-            assert_eq!(rt; verified.into_repo().bodies(), 1);
-        }
-        Err(_) => panic!(rt; "one depth is refused"),
-    }
-    match verify(alloc, read(&rt, alloc, TWO_DEPTHS)?) {
-        Err(VerifyFault::Shape(fault, _)) => {
-            let depths = ShapeFault {
-                body: 0,
-                position: 2,
-                kind: ShapeKind::DepthMismatch,
-            };
-            assert_eq!(rt; fault, depths)
-        }
-        _ => panic!(rt; "two depths are accepted"),
-    }
+    let verified = verified(&rt, rt.alloc(), ONE_DEPTH)?;
+    assert_eq!(rt; slots_at_label(&rt, &verified), 0);
+    assert_eq!(rt; verified.into_repo().bodies(), 1);
+    Ok(())
+}
+
+#[test]
+fn two_depths_at_a_label_are_refused(rt: HostRuntime) -> Result<(), Fail> {
+    let depths = ShapeFault {
+        body: 0,
+        position: 2,
+        kind: ShapeKind::DepthMismatch,
+    };
+    assert_eq!(rt; shape_fault(&rt, rt.alloc(), TWO_DEPTHS)?, depths);
     Ok(())
 }

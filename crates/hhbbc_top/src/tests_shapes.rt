@@ -238,7 +238,7 @@ fn expect_checked(
         rt,
         alloc,
         &[CHECK],
-        text.as_bytes(),
+        text.bytes(),
         NONE,
         (status, out, err),
     )
