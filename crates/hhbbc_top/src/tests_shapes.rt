@@ -234,14 +234,7 @@ fn expect_checked(
     } else {
         (b"".as_slice(), line)
     };
-    expect(
-        rt,
-        alloc,
-        &[CHECK],
-        text.bytes(),
-        NONE,
-        (status, out, err),
-    )
+    expect(rt, alloc, &[CHECK], text.bytes(), NONE, (status, out, err))
 }
 
 #[test]
