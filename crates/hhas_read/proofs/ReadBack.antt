@@ -39,7 +39,7 @@ spelled_faultless : (bytes : List ℕ) (w : Whole) (at : ℕ) → Spells bytes w
 spelled_faultless bytes w at s f =
     f.none (record { bytes = bytes; parts = w; more = f.more; spells = s; begins = f.tokens ∙ sym (append_assoc f.read (f.token ∷ []) f.more) })
 
-none_first : (xs : List LinkFault) (f : LinkFault) (more : List LinkFault) → xs ≡ [] → xs ≡ f ∷ more → ⊥
+pub none_first : (xs : List LinkFault) (f : LinkFault) (more : List LinkFault) → xs ≡ [] → xs ≡ f ∷ more → ⊥
 none_first [] f more e g = absurd (cc)
 none_first (x ∷ xs) f more e g = absurd (cc)
 

@@ -21,6 +21,7 @@ use Rattle.hhbc_repo.specs.Outcome as outcomes
 use Rattle.hhbc_repo.specs.Outcome.{Outcome, Underflow}
 use Rattle.hhbc_repo.specs.Run.{Result as Ran, run}
 use Rattle.hhas_read.specs.LinkedTexts.{LinksWithFault, ReadsRepository}
+use Rattle.hhas_read.proofs.ReadBack.{repositories_one}
 use Rattle.func_analyze.specs.Laws.{AnnotatedHasSpelling, AreWords, BareChainAnnotates, SecondIsFaithful, SecondIsUnique}
 use Rattle.func_analyze.specs.Annotated.{IsAnnotated}
 use Rattle.func_analyze.specs.Chain.{annotated_by}
@@ -43,7 +44,7 @@ use Rattle.hhbbc_top.specs.Mains.{IsMainOf}
 use Rattle.hhbbc_top.specs.ReadText.{IsReadText, SpellsOne, SpelledIsFaultless}
 use Rattle.hhbbc_top.specs.Report.{HasStatus}
 use Rattle.hhbbc_top.specs.Running.{outcome_of}
-use Rattle.hhbbc_top.proofs.OneText.{one-repository, links-or-not, read-or-not, linked-or-not}
+use Rattle.hhbbc_top.proofs.OneText.{links-or-not, read-or-not, linked-or-not}
 
 -- codes without their assertions
 bare-lines : (lines : List Line) → map bare_position (map position_of lines) ≡ map bare_of lines
@@ -60,8 +61,8 @@ bare-is m = λ i. record {
 main-read : (bytes : List ℕ) (r : Linked) (m : Main) → ReadsRepository bytes r → IsMainOf r m → IsReadText bytes (repo_of m)
 main-read bytes r m a h = subst (λ (s : Linked). IsReadText bytes s) h.is (record { reads = a; form = h.form; types = h.types })
 
-only-one : SpellsOne → (bytes : List ℕ) (r : Linked) → ReadsRepository bytes r → (other : Linked) → IsReadText bytes other → other ≡ r
-only-one one bytes r a other w = one-repository one bytes other r w.reads a
+only-one : (bytes : List ℕ) (r : Linked) → ReadsRepository bytes r → (other : Linked) → IsReadText bytes other → other ≡ r
+only-one bytes r a other w = repositories_one bytes other r w.reads a
 
 -- what the laws say of annotated texts
 pub record Laws : Type 0 where
@@ -84,7 +85,7 @@ annotated-text laws bytes r m out a h written =
     record {
       repo = r;
       read = record { reads = a; form = h.form; types = h.types };
-      only = only-one laws.one bytes r a;
+      only = only-one bytes r a;
       annotated = annotated_by (bare_repo_of m);
       is = is;
       unique = λ other w. subst (λ (s : Linked). other ≡ annotated_by s) bare-of (laws.unique r other h.form h.words 9 w);
@@ -102,7 +103,7 @@ answered laws Analyze bytes r m s out line a h k = (k.0, annotated-text laws byt
 answered laws (Run steps asserted) bytes r m s out line a h k = record {
   repo = repo_of m;
   read = main-read bytes r m a h;
-  only = λ other w. only-one laws.one bytes r a other w ∙ h.is;
+  only = λ other w. only-one bytes r a other w ∙ h.is;
   status = k.0;
   output = k.1;
   line = k.2;
@@ -116,7 +117,7 @@ given-as laws Check bytes r a w t h = (
   record {
     repo = r;
     read = record { reads = w; types = t refl };
-    only = λ other v. one-repository laws.one bytes other r v w;
+    only = λ other v. repositories_one bytes other r v w;
     written = h.written;
   },
   h.line,
@@ -126,7 +127,7 @@ given-as laws Format bytes r a w t h = (
   record {
     repo = r;
     reads = w;
-    only = λ other v. one-repository laws.one bytes other r v w;
+    only = λ other v. repositories_one bytes other r v w;
     written = h.written;
     again = subst (λ (o : List ℕ). ReadsRepository o r) (sym h.written) (laws.back r (laws.spelled bytes r w));
   },
@@ -362,10 +363,10 @@ module _ (one : SpellsOne) (spelled : SpelledIsFaultless) (c : Command) (bytes :
   types-left (Run steps asserted) r u = u.types
 
   no-shape : (r : Linked) → ReadsRepository bytes r → (verifies c ≡ true → Types r) → HasShapeFault c bytes → ⊥
-  no-shape r a t h = types-or-not h.0 (subst Types (one-repository one bytes r h.0.repo a h.1.reads) (t h.1.verified)) h.1.first
+  no-shape r a t h = types-or-not h.0 (subst Types (repositories_one bytes r h.0.repo a h.1.reads) (t h.1.verified)) h.1.first
 
   left-alone : (d : Command) (r other : Linked) → (IsUnserved d r → ⊥) → ReadsRepository bytes r → ReadsRepository bytes other → IsUnserved d other → ⊥
-  left-alone d r other kept a b u = kept (subst (λ (x : Linked). IsUnserved d x) (one-repository one bytes other r b a) u)
+  left-alone d r other kept a b u = kept (subst (λ (x : Linked). IsUnserved d x) (repositories_one bytes other r b a) u)
 
   goes-on-as : (s : Status) (out line : List ℕ) → Answers c bytes s out line → Expects c bytes s
   goes-on-as s out line h =
@@ -407,8 +408,8 @@ module _ (one : SpellsOne) (spelled : SpelledIsFaultless) (c : Command) (bytes :
   served-or-not : (d : Command) (r repo : Linked) → ReadsRepository bytes r → IsUnserved d r → IsServed d bytes repo → ⊥
   served-or-not Check r repo a u w = u
   served-or-not Format r repo a u w = u
-  served-or-not Analyze r repo a u w = no-form bytes r repo (one-repository one bytes r repo a w.reads) u.other w
-  served-or-not (Run steps asserted) r repo a u w = no-form bytes r repo (one-repository one bytes r repo a w.reads) u.other w
+  served-or-not Analyze r repo a u w = no-form bytes r repo (repositories_one bytes r repo a w.reads) u.other w
+  served-or-not (Run steps asserted) r repo a u w = no-form bytes r repo (repositories_one bytes r repo a w.reads) u.other w
 
   other-as : IsOtherText c bytes → Expects c bytes NotYet
   other-as h = record {

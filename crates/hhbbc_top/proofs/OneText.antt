@@ -6,19 +6,12 @@ use Rattle.hhbc_repo.specs.LinkFaults.{faults}
 use Rattle.hhbc_repo.specs.Resolved.{resolved}
 use Rattle.hhbc_repo.specs.TextSyntax.{FirstFault}
 use Rattle.hhas_read.specs.LinkedTexts.{ReadsRepository, LinksWithFault}
+use Rattle.hhas_read.proofs.ReadBack.{none_first}
 use Rattle.hhbbc_top.specs.ReadText.{SpellsOne, SpelledIsFaultless}
-
-pub one-repository : SpellsOne → (bytes : List ℕ) (r s : Linked) → ReadsRepository bytes r → ReadsRepository bytes s → r ≡ s
-one-repository one bytes r s a b =
-    a.links.is ∙ ap resolved (one bytes a.parts b.parts a.spells b.spells) ∙ sym b.links.is
-
-none-more : (xs : List LinkFault) (f : LinkFault) (more : List LinkFault) → xs ≡ [] → xs ≡ f ∷ more → ⊥
-none-more [] f more e g = absurd (cc)
-none-more (x ∷ xs) f more e g = absurd (cc)
 
 pub links-or-not : SpellsOne → (bytes : List ℕ) (r : Linked) (f : LinkFault) → ReadsRepository bytes r → LinksWithFault bytes f → ⊥
 links-or-not one bytes r f a b =
-    none-more (faults b.parts) f b.more (ap faults (sym (one bytes a.parts b.parts a.spells b.spells)) ∙ a.links.sound) b.first
+    none_first (faults b.parts) f b.more (ap faults (sym (one bytes a.parts b.parts a.spells b.spells)) ∙ a.links.sound) b.first
 
 pub read-or-not : SpelledIsFaultless → (bytes : List ℕ) (r : Linked) (at : ℕ) → ReadsRepository bytes r → FirstFault bytes at → ⊥
 read-or-not spelled bytes r at a b = spelled bytes a.parts at a.spells b

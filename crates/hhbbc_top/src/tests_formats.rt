@@ -8,7 +8,7 @@ use std::test::Fail;
 const FORMATS: &[(&[u8], &[u8])] = &[
     (b".profile 1;", b".profile 1;\n"),
     (
-        b"# row 1 with comments, tabs and CR LF\r\n.profile\t1 ;\r\n\r\n.function main ( )\r\n{\r\n\t.declvars $x ; # one local\r\n\tInt 2\tSetL $x\r\n\tPopC\r\n\tCGetL\r\n\t\t$x\r\n\tInt 3\r\n\tAdd\r\n\tRetC\r\n}\r\n# the end, without a line feed",
+        b"# comments, tabs and CR LF\r\n.profile\t1 ;\r\n\r\n.function main ( )\r\n{\r\n\t.declvars $x ; # one local\r\n\tInt 2\tSetL $x\r\n\tPopC\r\n\tCGetL\r\n\t\t$x\r\n\tInt 3\r\n\tAdd\r\n\tRetC\r\n}\r\n# the end, without a line feed",
         b".profile 1;\n.function main() {\n  .declvars $x;\n  Int 2\n  SetL $x\n  PopC\n  CGetL $x\n  Int 3\n  Add\n  RetC\n}\n",
     ),
     (

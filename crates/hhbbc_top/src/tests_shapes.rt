@@ -20,7 +20,7 @@ enum Piece {
 
 use Piece::{Locals, Once, Times};
 
-/// Texts, and the answer of `check`. Where it is a fault of shapes, a later check fails as well.
+/// Texts, and the answer of `check`. Those before the limits are faults of shapes where a later check fails as well.
 const SHAPES: &[(&[Piece], Status, &[u8])] = &[
     (
         &[Once(b"main(){NullUninit Add RetC}")],
