@@ -1,6 +1,6 @@
 -- Items that are written one after the other.
-use Rattle.std.proofs.Common.{◌≡◌, ℕ, zero, suc, ◌+◌, ◌-◌, ◌≤◌, List, [], ◌∷◌, ◌++◌, refl, sym, ap, ◌∙◌, append_assoc, append-nil, add-one, subst, subst₂, arith, drop, length, Some, codes}
-use Rattle.std.proofs.lemmas.List.{drop_all}
+use Rattle.std.proofs.Common.{◌≡◌, ℕ, zero, suc, ◌+◌, ◌-◌, ◌≤◌, List, [], ◌∷◌, ◌++◌, refl, sym, ap, ◌∙◌, append_assoc, append-nil, subst, subst₂, arith, drop, length, Some, codes, replicate}
+use Rattle.std.proofs.lemmas.List.{drop_all, replicate_more}
 use Rattle.hhas_lex.specs.Spaced.{Spaced, text_of}
 use Rattle.hhas_lex.specs.Tokens.{Directive, Mark, Word}
 use Rattle.hhbc_repo.specs.declared.parts.ItemParts.{ItemParts}
@@ -9,7 +9,7 @@ use Rattle.hhbc_repo.specs.declared.parts.PositionParts.{PositionParts}
 use Rattle.hhbc_repo.specs.declared.body.Body.{Body}
 use Rattle.hhbc_repo.specs.declared.body.Position.{Position}
 use Rattle.hhbc_repo.specs.LinkFaults.{Name}
-use Rattle.hhbc_repo.specs.Canonical.{before, canonical_position, copies, firsts, how_many, items_from, label_at, label_called, label_item, lasts, mids}
+use Rattle.hhbc_repo.specs.Canonical.{before, canonical_position, firsts, how_many, items_from, label_at, label_called, label_item, lasts, mids}
 use Rattle.hhbc_repo.specs.CanonicalText.{line, spaced, tight, outer, item_pieces, position_pieces}
 use Rattle.hhas_write.specs.Items.{Writes, catch_text, try_text}
 use Rattle.hhas_write.proofs.Written.{text_append}
@@ -21,13 +21,6 @@ pub writes_both : (xs ys : List ItemParts) (a b c : List ℕ) (d e f : ℕ) → 
 writes_both xs ys a b c d e f h k = record {
   leads = λ more. ap (λ l. a ++ text_of (item_pieces d l)) (append_assoc xs ys more) ∙ (h.leads (ys ++ more) ∙ k.leads more);
 }
-
-copies_suc : (n : ℕ) (x : ItemParts) → copies (suc n) x ≡ copies n x ++ x ∷ []
-copies_suc zero x = refl
-copies_suc (suc n) x = ap (λ l. x ∷ l) (copies_suc n x)
-
-pub copies_more : (n : ℕ) (x : ItemParts) → copies (n + 1) x ≡ copies n x ++ x ∷ []
-copies_more n x = rw add-one (copies_suc n x)
 
 written_behind : (ps : List Spaced) (out : List ℕ) (rest : List Spaced) → out ++ text_of (ps ++ rest) ≡ (out ++ text_of ps) ++ text_of rest
 written_behind ps out rest = ap (λ l. out ++ l) (text_append ps rest) ∙ sym (append_assoc out (text_of ps) (text_of rest))
@@ -87,9 +80,9 @@ all_written names b place count text out new inner last h e k l w =
 
 -- the parts of what stands before a position
 pub before_written : (b : Body) (p : ℕ) (out one two three new : List ℕ) (depth first second third : ℕ)
-    → Writes (copies (how_many p (lasts b.regions)) items.End) out depth one first
-    → Writes (copies (how_many p (mids b.regions)) items.Catch) one first two first
-    → Writes (copies (how_many p (firsts b.regions)) items.Try) two first three second
+    → Writes (replicate (how_many p (lasts b.regions)) items.End) out depth one first
+    → Writes (replicate (how_many p (mids b.regions)) items.Catch) one first two first
+    → Writes (replicate (how_many p (firsts b.regions)) items.Try) two first three second
     → Writes (label_item (label_at b.positions p)) three second new third
     → Writes (before b p) out depth new third
 before_written b p out one two three new depth first second third e c t l =
@@ -101,31 +94,31 @@ before_written b p out one two three new depth first second third e c t l =
 suc_is : (n : ℕ) → suc n ≡ n + 1
 suc_is n = omega arith
 
-pub ends_more : (n : ℕ) (old out new : List ℕ) (depth inner next : ℕ) → Writes (copies n items.End) old depth out inner → next ≡ inner - 1
-    → new ≡ out ++ text_of (line next (Mark 125) ∷ []) → Writes (copies (n + 1) items.End) old depth new next
+pub ends_more : (n : ℕ) (old out new : List ℕ) (depth inner next : ℕ) → Writes (replicate n items.End) old depth out inner → next ≡ inner - 1
+    → new ≡ out ++ text_of (line next (Mark 125) ∷ []) → Writes (replicate (n + 1) items.End) old depth new next
 ends_more n old out new depth inner next h e w =
     let k : next ≡ outer inner = e ∙ sym (outer_is inner) in
     let one : Writes (items.End ∷ []) out inner new next =
     subst₂ (λ (o : List ℕ) (d : ℕ). Writes (items.End ∷ []) out inner o d) (ap (λ d. out ++ text_of (line d (Mark 125) ∷ [])) (sym k) ∙ sym w) (sym k) (one_end out inner) in
-    subst (λ (is : List ItemParts). Writes is old depth new next) (sym (copies_more n items.End))
-    (writes_both (copies n items.End) (items.End ∷ []) old out new depth inner next h one)
+    subst (λ (is : List ItemParts). Writes is old depth new next) (replicate_more n items.End)
+    (writes_both (replicate n items.End) (items.End ∷ []) old out new depth inner next h one)
 
-pub catches_more : (n : ℕ) (old out new : List ℕ) (depth next : ℕ) → Writes (copies n items.Catch) old depth out depth → next ≡ depth - 1
-    → new ≡ out ++ catch_text next → Writes (copies (n + 1) items.Catch) old depth new depth
+pub catches_more : (n : ℕ) (old out new : List ℕ) (depth next : ℕ) → Writes (replicate n items.Catch) old depth out depth → next ≡ depth - 1
+    → new ≡ out ++ catch_text next → Writes (replicate (n + 1) items.Catch) old depth new depth
 catches_more n old out new depth next h e w =
     let k : next ≡ outer depth = e ∙ sym (outer_is depth) in
     let one : Writes (items.Catch ∷ []) out depth new depth =
     subst (λ (o : List ℕ). Writes (items.Catch ∷ []) out depth o depth) (ap (λ d. out ++ catch_text d) (sym k) ∙ sym w) (one_catch out depth) in
-    subst (λ (is : List ItemParts). Writes is old depth new depth) (sym (copies_more n items.Catch))
-    (writes_both (copies n items.Catch) (items.Catch ∷ []) old out new depth depth depth h one)
+    subst (λ (is : List ItemParts). Writes is old depth new depth) (replicate_more n items.Catch)
+    (writes_both (replicate n items.Catch) (items.Catch ∷ []) old out new depth depth depth h one)
 
-pub tries_more : (n : ℕ) (old out new : List ℕ) (depth inner next : ℕ) → Writes (copies n items.Try) old depth out inner
-    → new ≡ out ++ try_text inner → next ≡ inner + 1 → Writes (copies (n + 1) items.Try) old depth new next
+pub tries_more : (n : ℕ) (old out new : List ℕ) (depth inner next : ℕ) → Writes (replicate n items.Try) old depth out inner
+    → new ≡ out ++ try_text inner → next ≡ inner + 1 → Writes (replicate (n + 1) items.Try) old depth new next
 tries_more n old out new depth inner next h w e =
     let one : Writes (items.Try ∷ []) out inner new next =
     subst₂ (λ (o : List ℕ) (d : ℕ). Writes (items.Try ∷ []) out inner o d) (sym w) (suc_is inner ∙ sym e) (one_try out inner) in
-    subst (λ (is : List ItemParts). Writes is old depth new next) (sym (copies_more n items.Try))
-    (writes_both (copies n items.Try) (items.Try ∷ []) old out new depth inner next h one)
+    subst (λ (is : List ItemParts). Writes is old depth new next) (replicate_more n items.Try)
+    (writes_both (replicate n items.Try) (items.Try ∷ []) old out new depth inner next h one)
 
 pub label_written : (out new : List ℕ) (depth label : ℕ) → new ≡ out ++ text_of (line depth (Word (label_called label)) ∷ tight (Mark 58) ∷ [])
     → Writes (label_item (Some label)) out depth new depth

@@ -2,7 +2,8 @@
 
 ghost use Rattle.std.specs.Prelude.{◌≡◌, ◌++◌, suc, IfOk, OnOk, length, map};
 ghost use Rattle.std.specs.List.{flat_map};
-ghost use Rattle.hhbc_repo.specs.Canonical.{code_targets, firsts, lasts, mids, operand_targets, position_targets, targets};
+ghost use Rattle.hhbc_repo.specs.Canonical.{firsts, lasts, mids, position_targets, targets};
+ghost use Rattle.hhbc_repo.specs.Codes.{labels, labels_in};
 ghost use Rattle.hhas_write.specs.Tables.{Labels, Tallied};
 
 use hack_values::{NoMemory, Seq};
@@ -33,7 +34,7 @@ fn push_arm_targets(out: &mut Seq<u32>, arms: &[Arm]) -> Result<(), NoMemory>
 }
 
 fn push_operand_targets(out: &mut Seq<u32>, operand: &Imm) -> Result<(), NoMemory>
-    ensures { OnOk result (out.new ≡ out.old ++ operand_targets operand.now) }
+    ensures { OnOk result (out.new ≡ out.old ++ labels_in operand.now) }
 {
     match operand {
         Imm::Pos(position) => out.push(*position),
@@ -43,7 +44,7 @@ fn push_operand_targets(out: &mut Seq<u32>, operand: &Imm) -> Result<(), NoMemor
 }
 
 fn push_all_targets(out: &mut Seq<u32>, operands: &[Imm]) -> Result<(), NoMemory>
-    ensures { OnOk result (out.new ≡ out.old ++ flat_map operand_targets operands.now) }
+    ensures { OnOk result (out.new ≡ out.old ++ flat_map labels_in operands.now) }
 {
     for operand in operands {
         push_operand_targets(out, operand)?;
@@ -52,7 +53,7 @@ fn push_all_targets(out: &mut Seq<u32>, operands: &[Imm]) -> Result<(), NoMemory
 }
 
 fn push_code_targets(out: &mut Seq<u32>, code: &Code) -> Result<(), NoMemory>
-    ensures { OnOk result (out.new ≡ out.old ++ code_targets code.now) }
+    ensures { OnOk result (out.new ≡ out.old ++ labels code.now) }
 {
     match code {
         Code::Plain(code) => push_all_targets(out, code.imms.as_slice()),

@@ -1,7 +1,7 @@
 //! What stands before a position: ends and beginnings of try and catch bodies, and its label.
 
-ghost use Rattle.std.specs.Prelude.{◌≡◌, ◌≤◌, ◌++◌, OnOk, length};
-ghost use Rattle.hhbc_repo.specs.Canonical.{before, copies, label_item};
+ghost use Rattle.std.specs.Prelude.{◌≡◌, ◌≤◌, ◌++◌, OnOk, length, replicate};
+ghost use Rattle.hhbc_repo.specs.Canonical.{before, label_item};
 ghost use Rattle.hhbc_repo.specs.declared.parts.ItemParts.TheVariants as items;
 ghost use Rattle.hhas_write.specs.Items.{Writes, catch_text, try_text};
 
@@ -13,7 +13,7 @@ use std::alloc::Global;
 /// Closes catch bodies.
 #[tactic(auto, using(crate::proofs::Turning::writes_none))]
 fn push_ends(out: &mut Text, depth: &mut usize, count: usize) -> Result<(), NoMemory>
-    ensures { OnOk result (Writes (copies count items.End) out.old depth.old out.new depth.new) }
+    ensures { OnOk result (Writes (replicate count items.End) out.old depth.old out.new depth.new) }
 {
     for _ in 0..count {
         *depth = depth.saturating_sub(1);
@@ -33,7 +33,7 @@ fn push_catch(out: &mut Text, outer: usize) -> Result<(), NoMemory>
 /// Closes try bodies and opens their catch bodies.
 #[tactic(auto, using(crate::proofs::Turning::writes_none))]
 fn push_catches(out: &mut Text, depth: usize, count: usize) -> Result<(), NoMemory>
-    ensures { OnOk result (Writes (copies count items.Catch) out.old depth out.new depth) }
+    ensures { OnOk result (Writes (replicate count items.Catch) out.old depth out.new depth) }
 {
     for _ in 0..count {
         push_catch(out, depth.saturating_sub(1))?;
@@ -51,7 +51,7 @@ fn push_try(out: &mut Text, depth: usize) -> Result<(), NoMemory>
 /// Opens try bodies. No memory holds a text within so many braces that they can't be counted.
 #[tactic(auto, using(crate::proofs::Turning::writes_none))]
 fn push_tries(out: &mut Text, depth: &mut usize, count: usize) -> Result<(), NoMemory>
-    ensures { OnOk result (Writes (copies count items.Try) out.old depth.old out.new depth.new) }
+    ensures { OnOk result (Writes (replicate count items.Try) out.old depth.old out.new depth.new) }
 {
     for _ in 0..count {
         push_try(out, *depth)?;

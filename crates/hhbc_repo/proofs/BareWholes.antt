@@ -1,6 +1,6 @@
 -- Parts without assertions and stated types: they have the same labels, nesting and regions, are alike, are the canonical parts of the
 -- repository without them, and link to it.
-use Rattle.std.proofs.Common.{◌≡◌, ℕ, zero, suc, ◌+◌, Bool, true, false, ◌&&◌, nat_le, List, [], ◌∷◌, ◌++◌, map, flat_map, take, length, max, slice_get, Option, Some, None, option_map, codes, refl, sym, ap, ap₂, ◌∙◌}
+use Rattle.std.proofs.Common.{◌≡◌, ℕ, zero, suc, ◌+◌, Bool, true, false, ◌&&◌, nat_le, List, [], ◌∷◌, ◌++◌, map, flat_map, take, length, max, slice_get, Option, Some, None, option_map, codes, refl, sym, ap, ap₂, ◌∙◌, replicate}
 use Rattle.std.specs.Prelude.{if◌then◌else◌, nat_eq}
 use Rattle.std.specs.List.{list_any}
 use Rattle.std.proofs.lemmas.List.{length-map, map-append}
@@ -33,7 +33,7 @@ use Rattle.hhbc_repo.specs.declared.parts.PropertyParts.{PropertyParts}
 use Rattle.hhbc_repo.specs.Bare.{bare_position, bare_body, bare_property, bare_class, bare}
 use Rattle.hhbc_repo.specs.Bodies.{built_in_names, built_in_tree}
 use Rattle.hhbc_repo.specs.Bodies as repository
-use Rattle.hhbc_repo.specs.Canonical.{code_targets, targets, is_named, named_before, label_at, label_called, label_name, label_item, copies, turns, before, canonical_arm, canonical_operand, canonical_code, canonical_position, items_from, canonical_body, canonical_property, canonical_class, canonical}
+use Rattle.hhbc_repo.specs.Canonical.{targets, is_named, named_before, label_at, label_called, label_name, label_item, turns, before, canonical_arm, canonical_operand, canonical_code, canonical_position, items_from, canonical_body, canonical_property, canonical_class, canonical}
 use Rattle.hhbc_repo.specs.Fits.{Open, InTry, InCatch, nests}
 use Rattle.hhbc_repo.specs.Linked.{Linked}
 use Rattle.hhbc_repo.specs.LinkFaults.{Name, Whole, is_name, place_in, class_names, parent_in, parents, property_names, methods, at_class, along, with_name, label_of, position_in, nesting_from}
@@ -249,7 +249,7 @@ bare_links w = λ i. record { functions = bodies_link w w.functions i; classes =
 
 targets_bare : (all : List Position) → targets (map bare_position all) ≡ targets all
 targets_bare [] = refl
-targets_bare (q ∷ qs) = ap (λ (l : List ℕ). code_targets q.code ++ l) (targets_bare qs)
+targets_bare (q ∷ qs) = ap (λ (l : List ℕ). labels q.code ++ l) (targets_bare qs)
 
 module _ (all : List Position) where
   named_same : (p : ℕ) → is_named (map bare_position all) p ≡ is_named all p
@@ -275,7 +275,7 @@ module _ (names : List Name) (b : Body) where
   code_bare (coded.Plain c) = λ i. forms.Plain (record { op = c.op; imms = map (λ (m : Imm). operand_bare m i) c.imms })
   code_bare (coded.Member m) = refl
 
-  copies_bare : (item : ItemParts) → bare_item item ≡ item → (n : ℕ) → copies n item ≡ map bare_item (copies n item)
+  copies_bare : (item : ItemParts) → bare_item item ≡ item → (n : ℕ) → replicate n item ≡ map bare_item (replicate n item)
   copies_bare item e zero = refl
   copies_bare item e (suc n) = ap₂ (λ (x : ItemParts) (xs : List ItemParts). x ∷ xs) (sym e) (copies_bare item e n)
 

@@ -1,6 +1,6 @@
 -- Items that are put together from positions and regions: they fit where their positions and labels do, and the positions of items are
 -- those that they link to.
-use Rattle.std.proofs.Common.{◌≡◌, ◌≤◌, ℕ, zero, suc, ◌+◌, Bool, true, false, ◌&&◌, ◌||◌, nat_le, nat_eq, List, [], ◌∷◌, ◌++◌, map, flat_map, length, Option, Some, None, option_map, refl, ap, subst, arith, append_assoc}
+use Rattle.std.proofs.Common.{◌≡◌, ◌≤◌, ℕ, zero, suc, ◌+◌, Bool, true, false, ◌&&◌, ◌||◌, nat_le, nat_eq, List, [], ◌∷◌, ◌++◌, map, flat_map, length, Option, Some, None, option_map, refl, ap, subst, arith, append_assoc, replicate}
 use Rattle.std.specs.Prelude.{if◌then◌else◌}
 use Rattle.std.specs.List.{list_all, list_any}
 use Rattle.std.proofs.lemmas.Bool.{and_from, and_parts, eq-eqb, leb-true}
@@ -11,7 +11,7 @@ use Rattle.hhbc_repo.specs.declared.body.Region.{Region}
 use Rattle.hhbc_repo.specs.declared.parts.BodyParts.{BodyParts}
 use Rattle.hhbc_repo.specs.declared.parts.ItemParts.{ItemParts}
 use Rattle.hhbc_repo.specs.declared.parts.ItemParts.TheVariants as items
-use Rattle.hhbc_repo.specs.Canonical.{targets, is_named, named_before, label_at, label_called, label_name, label_item, how_many, copies, firsts, mids, lasts, turns, before, canonical_position, items_from}
+use Rattle.hhbc_repo.specs.Canonical.{targets, is_named, named_before, label_at, label_called, label_name, label_item, how_many, firsts, mids, lasts, turns, before, canonical_position, items_from}
 use Rattle.hhbc_repo.specs.Fits.{is_label, item_fits, position_fits}
 use Rattle.hhbc_repo.specs.LinkFaults.{Name, Whole, place_in, position_in}
 use Rattle.hhbc_repo.specs.Resolved.{label_here, label_from, resolved_item, resolved_position}
@@ -68,15 +68,15 @@ items_fit (items.Try ∷ is) h k = items_fit is h k
 items_fit (items.Catch ∷ is) h k = items_fit is h k
 items_fit (items.End ∷ is) h k = items_fit is h k
 
-copies_labelled : (item : ItemParts) → well_labelled item ≡ true → (n : ℕ) → list_all well_labelled (copies n item) ≡ true
+copies_labelled : (item : ItemParts) → well_labelled item ≡ true → (n : ℕ) → list_all well_labelled (replicate n item) ≡ true
 copies_labelled item h zero = refl
-copies_labelled item h (suc n) = and_from (well_labelled item) (list_all well_labelled (copies n item)) h (copies_labelled item h n)
+copies_labelled item h (suc n) = and_from (well_labelled item) (list_all well_labelled (replicate n item)) h (copies_labelled item h n)
 
 turns_labelled : (rs : List Region) (p : ℕ) → list_all well_labelled (turns rs p) ≡ true
 turns_labelled rs p =
-    let ends = copies (how_many p (lasts rs)) items.End in
-    let catches = copies (how_many p (mids rs)) items.Catch in
-    let tries = copies (how_many p (firsts rs)) items.Try in
+    let ends = replicate (how_many p (lasts rs)) items.End in
+    let catches = replicate (how_many p (mids rs)) items.Catch in
+    let tries = replicate (how_many p (firsts rs)) items.Try in
     all_both well_labelled ends (catches ++ tries) (copies_labelled items.End refl (how_many p (lasts rs)))
     (all_both well_labelled catches tries (copies_labelled items.Catch refl (how_many p (mids rs))) (copies_labelled items.Try refl (how_many p (firsts rs))))
 

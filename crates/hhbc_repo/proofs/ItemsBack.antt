@@ -1,6 +1,6 @@
 -- Items that nest come back from their regions: the canonical items of the body that they link to nest too, and have
 -- the same regions and the same nesting.
-use Rattle.std.proofs.Common.{◌≡◌, ℕ, zero, suc, true, false, List, [], ◌∷◌, ◌++◌, length, Option, Some, None, refl, sym, ap, ap₂, ◌∙◌, append-nil}
+use Rattle.std.proofs.Common.{◌≡◌, ℕ, zero, suc, true, false, List, [], ◌∷◌, ◌++◌, length, Option, Some, None, refl, sym, ap, ap₂, ◌∙◌, append-nil, replicate}
 use Rattle.std.specs.List.{flat_map}
 use Rattle.hhbc_ops.specs.declared.op.Op.TheVariants as ops
 use Rattle.hhbc_repo.specs.declared.body.Body.{Body}
@@ -11,7 +11,7 @@ use Rattle.hhbc_repo.specs.declared.parts.CodeParts.TheVariants as forms
 use Rattle.hhbc_repo.specs.declared.parts.ItemParts.{ItemParts}
 use Rattle.hhbc_repo.specs.declared.parts.ItemParts.TheVariants as items
 use Rattle.hhbc_repo.specs.declared.parts.PositionParts.{PositionParts}
-use Rattle.hhbc_repo.specs.Canonical.{how_many, firsts, mids, lasts, copies, turns, label_at, label_item, before, items_from, canonical_position}
+use Rattle.hhbc_repo.specs.Canonical.{how_many, firsts, mids, lasts, turns, label_at, label_item, before, items_from, canonical_position}
 use Rattle.hhbc_repo.specs.Fits.{nests}
 use Rattle.hhbc_repo.specs.LinkFaults.{Name, Whole, nesting_from}
 use Rattle.hhbc_repo.specs.Resolved.{regions_from, resolved_item, resolved_body}
@@ -20,15 +20,15 @@ use Rattle.hhbc_repo.proofs.ItemsLaid.{laid, laid_same, positions_in, turns_in, 
 
 -- ---- the steps of canonical items
 
-steps_copies : (q : PositionParts) (item : ItemParts) (n : ℕ) → ((more : List ItemParts) → steps q (item ∷ more) ≡ item ∷ steps q more) → steps q (copies n item) ≡ copies n item
+steps_copies : (q : PositionParts) (item : ItemParts) (n : ℕ) → ((more : List ItemParts) → steps q (item ∷ more) ≡ item ∷ steps q more) → steps q (replicate n item) ≡ replicate n item
 steps_copies q item zero one = refl
-steps_copies q item (suc n) one = one (copies n item) ∙ ap (λ (l : List ItemParts). item ∷ l) (steps_copies q item n one)
+steps_copies q item (suc n) one = one (replicate n item) ∙ ap (λ (l : List ItemParts). item ∷ l) (steps_copies q item n one)
 
 steps_turns : (q : PositionParts) (rs : List Region) (p : ℕ) → steps q (turns rs p) ≡ turns rs p
 steps_turns q rs p =
-    let ends = copies (how_many p (lasts rs)) items.End in
-    let catches = copies (how_many p (mids rs)) items.Catch in
-    let tries = copies (how_many p (firsts rs)) items.Try in
+    let ends = replicate (how_many p (lasts rs)) items.End in
+    let catches = replicate (how_many p (mids rs)) items.Catch in
+    let tries = replicate (how_many p (firsts rs)) items.Try in
     steps_both q ends (catches ++ tries)
     ∙ ap₂ (λ (xs ys : List ItemParts). xs ++ ys) (steps_copies q items.End (how_many p (lasts rs)) (λ more. refl))
     (steps_both q catches tries

@@ -1,9 +1,9 @@
 -- The steps of items that nest are the turns of their regions, in order: before each position and behind the last.
-use Rattle.std.proofs.Common.{◌≡◌, ◌≤◌, ◌<◌, ℕ, zero, suc, Bool, true, false, List, [], ◌∷◌, ◌++◌, refl, sym, ap, ap₂, ◌∙◌, arith, le_refl, add-zero}
+use Rattle.std.proofs.Common.{◌≡◌, ◌≤◌, ◌<◌, ℕ, zero, suc, Bool, true, false, List, [], ◌∷◌, ◌++◌, refl, sym, ap, ap₂, ◌∙◌, arith, le_refl, add-zero, replicate}
 use Rattle.hhbc_repo.specs.declared.parts.ItemParts.{ItemParts}
 use Rattle.hhbc_repo.specs.declared.parts.ItemParts.TheVariants as items
 use Rattle.hhbc_repo.specs.declared.parts.PositionParts.{PositionParts}
-use Rattle.hhbc_repo.specs.Canonical.{how_many, firsts, mids, lasts, copies, turns}
+use Rattle.hhbc_repo.specs.Canonical.{how_many, firsts, mids, lasts, turns}
 use Rattle.hhbc_repo.specs.Fits.{Open, InTry, InCatch, nests}
 use Rattle.hhbc_repo.specs.Resolved.{regions_from}
 use Rattle.hhbc_repo.proofs.ItemSteps.{steps}
@@ -12,7 +12,7 @@ use Rattle.hhbc_repo.proofs.TurnsCounted.{is_try, is_catch, is_end, noted, times
 -- ---- one turn
 
 abbrev pub turn : ℕ → ℕ → ℕ → List ItemParts
-turn ends catches tries = copies ends items.End ++ (copies catches items.Catch ++ copies tries items.Try)
+turn ends catches tries = replicate ends items.End ++ (replicate catches items.Catch ++ replicate tries items.Try)
 
 turn_same : (e f c d t u : ℕ) → e ≡ f → c ≡ d → t ≡ u → turn e c t ≡ turn f d u
 turn_same e f c d t u a b k = rw (a, b, k) refl

@@ -1,5 +1,5 @@
 -- The labels of canonical items: each stands at its position, is found there, fits, and is unlike the others.
-use Rattle.std.proofs.Common.{◌≡◌, ◌<◌, ◌≤◌, ◌^◌, ◌+◌, ℕ, zero, suc, Bool, true, false, not, ◌&&◌, ◌||◌, nat_le, List, [], ◌∷◌, ◌++◌, map, length, Option, Some, None, option_map, cond, if◌then◌else◌, refl, sym, ap, subst, ◌∙◌, arith, append_assoc, append-nil}
+use Rattle.std.proofs.Common.{◌≡◌, ◌<◌, ◌≤◌, ◌^◌, ◌+◌, ℕ, zero, suc, Bool, true, false, not, ◌&&◌, ◌||◌, nat_le, List, [], ◌∷◌, ◌++◌, map, length, Option, Some, None, option_map, cond, if◌then◌else◌, refl, sym, ap, subst, ◌∙◌, arith, append_assoc, append-nil, replicate}
 use Rattle.std.specs.List.{flat_map}
 use Rattle.std.specs.Fmt.{decimal}
 use Rattle.std.proofs.lemmas.Bool.{or_from, or_left, or_right, false_from_ne_true, le-leb}
@@ -14,7 +14,7 @@ use Rattle.hhbc_repo.specs.declared.body.Region.{Region}
 use Rattle.hhbc_repo.specs.declared.link_fault.LinkKind.TheVariants as kinds
 use Rattle.hhbc_repo.specs.declared.parts.ItemParts.{ItemParts}
 use Rattle.hhbc_repo.specs.declared.parts.ItemParts.TheVariants as items
-use Rattle.hhbc_repo.specs.Canonical.{is_named, named_before, label_at, label_called, label_name, label_item, canonical_position, how_many, copies, firsts, mids, lasts, turns, before, items_from}
+use Rattle.hhbc_repo.specs.Canonical.{is_named, named_before, label_at, label_called, label_name, label_item, canonical_position, how_many, firsts, mids, lasts, turns, before, items_from}
 use Rattle.hhbc_repo.specs.Fits.{is_label}
 use Rattle.hhbc_repo.specs.LinkFaults.{Name, is_name, names, place_in, check, differ_from, as_it_is, label_of, position_in}
 use Rattle.hhbc_repo.specs.Resolved.{label_here, label_from}
@@ -23,16 +23,16 @@ use Rattle.hhbc_repo.proofs.LabelWords.{called_fits}
 
 -- ---- what stands before a position
 
-copies_nothing : {A : Type 0} (f : ItemParts → List A) (item : ItemParts) → f item ≡ [] → (n : ℕ) → flat_map f (copies n item) ≡ []
+copies_nothing : {A : Type 0} (f : ItemParts → List A) (item : ItemParts) → f item ≡ [] → (n : ℕ) → flat_map f (replicate n item) ≡ []
 copies_nothing f item e zero = refl
-copies_nothing f item e (suc n) = ap (λ l. l ++ flat_map f (copies n item)) e ∙ copies_nothing f item e n
+copies_nothing f item e (suc n) = ap (λ l. l ++ flat_map f (replicate n item)) e ∙ copies_nothing f item e n
 
 -- what ends and beginnings of bodies have none of
 pub turns_nothing : {A : Type 0} (f : ItemParts → List A) → f items.End ≡ [] → f items.Catch ≡ [] → f items.Try ≡ [] → (rs : List Region) (p : ℕ) → flat_map f (turns rs p) ≡ []
 turns_nothing f at_end at_catch at_try rs p =
-    let ends = copies (how_many p (lasts rs)) items.End in
-    let catches = copies (how_many p (mids rs)) items.Catch in
-    let tries = copies (how_many p (firsts rs)) items.Try in
+    let ends = replicate (how_many p (lasts rs)) items.End in
+    let catches = replicate (how_many p (mids rs)) items.Catch in
+    let tries = replicate (how_many p (firsts rs)) items.Try in
     flat_map-append f ends (catches ++ tries)
     ∙ ap (λ l. l ++ flat_map f (catches ++ tries)) (copies_nothing f items.End at_end (how_many p (lasts rs)))
     ∙ flat_map-append f catches tries
@@ -234,15 +234,15 @@ label_listed classes c p inside is =
 -- ---- each is found at its position
 
 copies_pass : (item : ItemParts) (s : ℕ) (name : Name) → ((more : List ItemParts) → label_from s (item ∷ more) name ≡ label_from s more name)
-    → (n : ℕ) (more : List ItemParts) → label_from s (copies n item ++ more) name ≡ label_from s more name
+    → (n : ℕ) (more : List ItemParts) → label_from s (replicate n item ++ more) name ≡ label_from s more name
 copies_pass item s name pass zero more = refl
-copies_pass item s name pass (suc n) more = pass (copies n item ++ more) ∙ copies_pass item s name pass n more
+copies_pass item s name pass (suc n) more = pass (replicate n item ++ more) ∙ copies_pass item s name pass n more
 
 turns_pass : (rs : List Region) (p s : ℕ) (more : List ItemParts) (name : Name) → label_from s (turns rs p ++ more) name ≡ label_from s more name
 turns_pass rs p s more name =
-    let ends = copies (how_many p (lasts rs)) items.End in
-    let catches = copies (how_many p (mids rs)) items.Catch in
-    let tries = copies (how_many p (firsts rs)) items.Try in
+    let ends = replicate (how_many p (lasts rs)) items.End in
+    let catches = replicate (how_many p (mids rs)) items.Catch in
+    let tries = replicate (how_many p (firsts rs)) items.Try in
     ap (λ (l : List ItemParts). label_from s l name) (append_assoc ends (catches ++ tries) more ∙ ap (λ l. ends ++ l) (append_assoc catches tries more))
     ∙ copies_pass items.End s name (λ m. refl) (how_many p (lasts rs)) (catches ++ (tries ++ more))
     ∙ copies_pass items.Catch s name (λ m. refl) (how_many p (mids rs)) (tries ++ more)

@@ -26,7 +26,8 @@ use Rattle.hhbc_repo.specs.declared.code.Arm.{Arm}
 use Rattle.hhbc_repo.specs.declared.code.Code.TheVariants as codes
 use Rattle.hhbc_repo.specs.declared.code.Imm.{Imm}
 use Rattle.hhbc_repo.specs.declared.code.Imm.TheVariants as linked
-use Rattle.hhbc_repo.specs.Canonical.{operand_targets, code_targets, position_targets}
+use Rattle.hhbc_repo.specs.Canonical.{position_targets}
+use Rattle.hhbc_repo.specs.Codes.{labels, labels_in}
 use Rattle.hhbc_repo.specs.Fits.{is_label, has_no_text, has_text, arm_fits, text_arm_fits, arms_fit, text_arms_fit, operand_fits, operands_fit, code_fits, assert_fits, position_fits}
 use Rattle.hhbc_repo.specs.LinkFaults.{Name, Whole, Place, names, label_of, check, class_of, local_faults, label_faults, assert_faults, operand_faults, constant_faults, method_faults, instruction_faults, code_faults, position_faults}
 use Rattle.hhbc_repo.proofs.Relabelled.{relabelled_arm, relabelled_operand, relabelled_code, relabelled_position}
@@ -110,7 +111,7 @@ module _ (w v : Whole) (alike : Alike w v) (b : BodyParts) (is : List ItemParts)
 
   -- ---- operands
 
-  operand_fits_still : (m : ImmParts) (k : ImmKind) → Meant (operand_targets (resolved_operand w b m)) → operand_fits k m ≡ true → operand_fits k (relabelled_operand new m) ≡ true
+  operand_fits_still : (m : ImmParts) (k : ImmKind) → Meant (labels_in (resolved_operand w b m)) → operand_fits k m ≡ true → operand_fits k (relabelled_operand new m) ≡ true
   operand_fits_still (imms.Pos name) kinds.Label t h = (renamed name (and_parts (is_target (label_number b name)) true t).0).fits
   operand_fits_still (imms.Pos name) k t h = absurd (cc)
   operand_fits_still (imms.Arms xs) kinds.Switch t h = arms_fit_still xs t h
@@ -118,50 +119,50 @@ module _ (w v : Whole) (alike : Alike w v) (b : BodyParts) (is : List ItemParts)
   operand_fits_still (imms.Arms xs) k t h = absurd (cc)
   operand_fits_still m k t h = h
 
-  operands_fit_still : (ks : List ImmKind) (ms : List ImmParts) → Meant (flat_map operand_targets (map (resolved_operand w b) ms)) → operands_fit ks ms ≡ true → operands_fit ks (map (relabelled_operand new) ms) ≡ true
+  operands_fit_still : (ks : List ImmKind) (ms : List ImmParts) → Meant (flat_map labels_in (map (resolved_operand w b) ms)) → operands_fit ks ms ≡ true → operands_fit ks (map (relabelled_operand new) ms) ≡ true
   operands_fit_still [] [] t h = refl
   operands_fit_still [] (m ∷ ms) t h = absurd (cc)
   operands_fit_still (k ∷ ks) [] t h = absurd (cc)
   operands_fit_still (k ∷ ks) (m ∷ ms) t h =
-      let now = operand_targets (resolved_operand w b m) in
-      let later = flat_map operand_targets (map (resolved_operand w b) ms) in
+      let now = labels_in (resolved_operand w b m) in
+      let later = flat_map labels_in (map (resolved_operand w b) ms) in
       let p = and_parts (operand_fits k m) (operands_fit ks ms) h in
       and_from (operand_fits k (relabelled_operand new m)) (operands_fit ks (map (relabelled_operand new) ms))
       (operand_fits_still m k (all_front is_target now later t) p.0) (operands_fit_still ks ms (all_back is_target now later t) p.1)
 
-  operand_faultless : (m : ImmParts) → Meant (operand_targets (resolved_operand w b m)) → operand_faults here m ≡ [] → operand_faults there (relabelled_operand new m) ≡ []
+  operand_faultless : (m : ImmParts) → Meant (labels_in (resolved_operand w b m)) → operand_faults here m ≡ [] → operand_faults there (relabelled_operand new m) ≡ []
   operand_faultless (imms.Pos name) t h = label_faultless name (and_parts (is_target (label_number b name)) true t).0
   operand_faultless (imms.Class name) t h = class_faults_same w v alike owner name ∙ h
   operand_faultless (imms.Constraint c) t h = type_faults_same w v alike owner c ∙ h
   operand_faultless (imms.Arms xs) t h = arms_faultless xs t
   operand_faultless m t h = h
 
-  operands_faultless : (ms : List ImmParts) → Meant (flat_map operand_targets (map (resolved_operand w b) ms)) → flat_map (operand_faults here) ms ≡ [] → flat_map (operand_faults there) (map (relabelled_operand new) ms) ≡ []
+  operands_faultless : (ms : List ImmParts) → Meant (flat_map labels_in (map (resolved_operand w b) ms)) → flat_map (operand_faults here) ms ≡ [] → flat_map (operand_faults there) (map (relabelled_operand new) ms) ≡ []
   operands_faultless [] t h = refl
   operands_faultless (m ∷ ms) t h =
-      let now = operand_targets (resolved_operand w b m) in
-      let later = flat_map operand_targets (map (resolved_operand w b) ms) in
+      let now = labels_in (resolved_operand w b m) in
+      let later = flat_map labels_in (map (resolved_operand w b) ms) in
       none_both (operand_faults there (relabelled_operand new m)) (flat_map (operand_faults there) (map (relabelled_operand new) ms))
       (operand_faultless m (all_front is_target now later t) (empty_left (operand_faults here m) (flat_map (operand_faults here) ms) h))
       (operands_faultless ms (all_back is_target now later t) (empty_right (operand_faults here m) (flat_map (operand_faults here) ms) h))
 
-  operand_resolves : (m : ImmParts) → Meant (operand_targets (resolved_operand w b m)) → resolved_operand v made (relabelled_operand new m) ≡ resolved_operand w b m
+  operand_resolves : (m : ImmParts) → Meant (labels_in (resolved_operand w b m)) → resolved_operand v made (relabelled_operand new m) ≡ resolved_operand w b m
   operand_resolves (imms.Pos name) t = ap (λ (n : ℕ). linked.Pos n) (renamed name (and_parts (is_target (label_number b name)) true t).0).number
   operand_resolves (imms.Class name) t = ap (λ (n : ℕ). linked.Class n) (number_same w v alike name)
   operand_resolves (imms.Constraint c) t = ap linked.Constraint (type_same w v alike c)
   operand_resolves (imms.Arms xs) t = ap linked.Arms (arms_resolve xs t)
   operand_resolves m t = refl
 
-  operands_resolve : (ms : List ImmParts) → Meant (flat_map operand_targets (map (resolved_operand w b) ms)) → map (resolved_operand v made) (map (relabelled_operand new) ms) ≡ map (resolved_operand w b) ms
+  operands_resolve : (ms : List ImmParts) → Meant (flat_map labels_in (map (resolved_operand w b) ms)) → map (resolved_operand v made) (map (relabelled_operand new) ms) ≡ map (resolved_operand w b) ms
   operands_resolve [] t = refl
   operands_resolve (m ∷ ms) t =
-      let now = operand_targets (resolved_operand w b m) in
-      let later = flat_map operand_targets (map (resolved_operand w b) ms) in
+      let now = labels_in (resolved_operand w b m) in
+      let later = flat_map labels_in (map (resolved_operand w b) ms) in
       ap₂ (λ (x : Imm) (xs : List Imm). x ∷ xs) (operand_resolves m (all_front is_target now later t)) (operands_resolve ms (all_back is_target now later t))
 
   -- ---- codes
 
-  instruction_faultless : (op : Op) (ms : List ImmParts) → Meant (flat_map operand_targets (map (resolved_operand w b) ms)) → instruction_faults here op ms ≡ [] → instruction_faults there op (map (relabelled_operand new) ms) ≡ []
+  instruction_faultless : (op : Op) (ms : List ImmParts) → Meant (flat_map labels_in (map (resolved_operand w b) ms)) → instruction_faults here op ms ≡ [] → instruction_faults there op (map (relabelled_operand new) ms) ≡ []
   instruction_faultless ops.ClsCnsD (imms.Name name ∷ imms.Class class ∷ []) t h =
       ap (constant_faults there name class) (class_same w v alike class) ∙ constant_faults_same w v alike b made owner name class (class_of w class) ∙ h
   instruction_faultless ops.FCallClsMethodD (imms.Count n ∷ imms.Name name ∷ imms.Class class ∷ []) t h =
@@ -169,15 +170,15 @@ module _ (w v : Whole) (alike : Alike w v) (b : BodyParts) (is : List ItemParts)
   instruction_faultless ops.FCallFuncD (imms.Count n ∷ imms.Name name ∷ []) t h = function_faults_same w v alike b made owner name n ∙ h
   instruction_faultless op ms t h = operands_faultless ms t h
 
-  code_fits_still : (c : CodeParts) → Meant (code_targets (resolved_code w b c)) → code_fits c ≡ true → code_fits (relabelled_code new c) ≡ true
+  code_fits_still : (c : CodeParts) → Meant (labels (resolved_code w b c)) → code_fits c ≡ true → code_fits (relabelled_code new c) ≡ true
   code_fits_still (forms.Plain i) t h = operands_fit_still (kinds_of i.op) i.imms t h
   code_fits_still (forms.Member m) t h = h
 
-  code_faultless : (c : CodeParts) → Meant (code_targets (resolved_code w b c)) → code_faults here c ≡ [] → code_faults there (relabelled_code new c) ≡ []
+  code_faultless : (c : CodeParts) → Meant (labels (resolved_code w b c)) → code_faults here c ≡ [] → code_faults there (relabelled_code new c) ≡ []
   code_faultless (forms.Plain i) t h = instruction_faultless i.op i.imms t h
   code_faultless (forms.Member m) t h = h
 
-  code_resolves : (c : CodeParts) → Meant (code_targets (resolved_code w b c)) → resolved_code v made (relabelled_code new c) ≡ resolved_code w b c
+  code_resolves : (c : CodeParts) → Meant (labels (resolved_code w b c)) → resolved_code v made (relabelled_code new c) ≡ resolved_code w b c
   code_resolves (forms.Plain i) t = ap (λ (ms : List Imm). codes.Plain (record { op = i.op; imms = ms })) (operands_resolve i.imms t)
   code_resolves (forms.Member m) t = refl
 

@@ -1,5 +1,5 @@
 -- The canonical parts of a repository: names in place of its numbers, and items in place of its positions and regions.
-use Rattle.std.specs.Prelude.{ℕ, zero, suc, ◌+◌, ◌&&◌, Bool, List, [], ◌∷◌, ◌++◌, map, take, drop, length, Option, Some, None, option_map, slice_get, nat_eq, nat_le, ◌==◌, if◌then◌else◌}
+use Rattle.std.specs.Prelude.{ℕ, zero, suc, ◌+◌, ◌&&◌, Bool, List, [], ◌∷◌, ◌++◌, map, take, drop, length, replicate, Option, Some, None, option_map, slice_get, nat_eq, nat_le, ◌==◌, if◌then◌else◌}
 use Rattle.std.specs.List.{flat_map, list_any}
 use Rattle.std.specs.Fmt.{decimal}
 use Rattle.type_lattice.specs.TypeText.{named, class_name}
@@ -41,24 +41,16 @@ use Rattle.hhbc_repo.specs.declared.code.Final.TheVariants as finals
 use Rattle.hhbc_repo.specs.declared.repo.Class.{Class}
 use Rattle.hhbc_repo.specs.declared.repo.Property.{Property}
 use Rattle.hhbc_repo.specs.Bodies.{class_names}
+use Rattle.hhbc_repo.specs.Codes.{labels}
 use Rattle.hhbc_repo.specs.Linked.{Linked}
 use Rattle.hhbc_repo.specs.LinkFaults.{Name, Whole}
 use Rattle.hhbc_repo.specs.WrittenTypes.{canonical_type}
 
 -- ---- labels
 
--- the positions that an operand names
-abbrev pub operand_targets : Imm → List ℕ
-operand_targets (imms.Pos p) = p ∷ []
-operand_targets (imms.Arms arms) = map (λ (a : Arm). a.target) arms
-operand_targets _ = []
-
-abbrev pub code_targets : Code → List ℕ
-code_targets (codes.Plain i) = flat_map operand_targets i.imms
-code_targets (codes.Member m) = []
-
+-- the positions that a code names
 abbrev pub position_targets : Position → List ℕ
-position_targets p = code_targets p.code
+position_targets p = labels p.code
 
 abbrev pub targets : List Position → List ℕ
 targets all = flat_map position_targets all
@@ -156,10 +148,6 @@ abbrev pub how_many : ℕ → List ℕ → ℕ
 how_many p [] = 0
 how_many p (q ∷ qs) = (if p == q then 1 else 0) + how_many p qs
 
-abbrev pub copies : ℕ → ItemParts → List ItemParts
-copies zero item = []
-copies (suc n) item = item ∷ copies n item
-
 abbrev pub firsts : List Region → List ℕ
 firsts rs = map (λ (r : Region). r.first) rs
 
@@ -171,7 +159,7 @@ lasts rs = map (λ (r : Region). r.last) rs
 
 -- the catch bodies that end before a position, the one that begins there, and the try bodies that do
 abbrev pub turns : List Region → ℕ → List ItemParts
-turns rs p = copies (how_many p (lasts rs)) items.End ++ (copies (how_many p (mids rs)) items.Catch ++ copies (how_many p (firsts rs)) items.Try)
+turns rs p = replicate (how_many p (lasts rs)) items.End ++ (replicate (how_many p (mids rs)) items.Catch ++ replicate (how_many p (firsts rs)) items.Try)
 
 -- what stands before a position: ends and beginnings of bodies, and its label
 abbrev pub before : Body → ℕ → List ItemParts
