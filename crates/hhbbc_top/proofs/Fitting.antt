@@ -22,7 +22,6 @@ use Rattle.hhbc_repo.specs.Linked.{Linked}
 use Rattle.hhbc_repo.specs.PlainTypes.{Never, Cell, Uninit, Null, False, True, Bool as BoolName, Int, Str, Named, OneInt, IsPlainType, TypeName, type_named, one_int}
 use Rattle.hhbc_repo.specs.LinkFaults.{place_in}
 use Rattle.hhbc_repo.specs.Shapes.{Types}
-use Rattle.hhbc_repo.specs.Walks.{walks_asserted, TypesWhereAssertedWalks}
 use Rattle.func_analyze.specs.Laws.{IsWord, AreWords}
 use Rattle.hhbbc_top.specs.declared.form.Step.{Step}
 use Rattle.hhbbc_top.specs.declared.form.Step.TheVariants as steps
@@ -182,13 +181,12 @@ pub unfit-turn : (count : ℕ) (xs : List Assert) (i : ℕ) (d : Assert) → i <
 unfit-turn count xs i d l not h k = not (subst (λ (ys : List Assert). FitAsserts count ys) (next xs i d l) (h.1 k)).0
 
 -- the codes of a body
-pub codes_made : (count : ℕ) (ps : List Position) (ls : List Line) → AreLines count ps ls → returns_last ls ≡ true → walks_asserted 0 (map position_of ls) ≡ true → AreCodes count ps ls
-codes_made count ps ls are last walked =
+pub codes_made : (count : ℕ) (ps : List Position) (ls : List Line) → AreLines count ps ls → returns_last ls ≡ true → AreCodes count ps ls
+codes_made count ps ls are last =
     let e : map position_of ls ≡ ps = sym are.are in
     record {
       are = are.are;
       fit = subst (λ (qs : List Position). FitClaimed count qs) e (claimed-lines count ls (subst (λ (qs : List Position). All (FitsClaimed count) qs) (sym e) are.fit) last);
-      walked = subst (λ (qs : List Position). walks_asserted 0 qs ≡ true) e walked;
       words = are.words;
     }
 
@@ -196,16 +194,11 @@ pub not_last : (count : ℕ) (ps : List Position) (ls : List Line) → AreLines 
 not_last count ps ls are last fit =
     let yes : returns_last ls ≡ true = claimed-last count ls (subst (λ (qs : List Position). FitClaimed count qs) are.are fit) in absurd (cc (last, yes))
 
-pub not_walked : (count : ℕ) (ps : List Position) (ls : List Line) → AreLines count ps ls → walks_asserted 0 (map position_of ls) ≡ false → walks_asserted 0 ps ≡ true → ⊥
-not_walked count ps ls are not walks =
-    let walked : walks_asserted 0 (map position_of ls) ≡ true = ap (λ (qs : List Position). walks_asserted 0 qs) (sym are.are) ∙ walks in absurd (cc (not, walked))
-
 -- a body of the form
 pub main_made : (b : Body) (m : Main) → IsHead b → AllDiffer b.locals → AreCodes (length b.locals) b.positions m.codes → m.stated ≡ b.stated → m.locals ≡ b.locals → IsMainIn b m
 main_made b m h d c s l = record {
   is = λ i. record { name = h.name i; params = h.params i; locals = sym l i; iters = h.iters i; stated = sym s i; positions = c.are i; regions = h.regions i };
   second = record { name = h.name; params = h.params; iters = h.iters; stated = h.stated; regions = h.regions; differ = d; locals = h.locals; few = h.few; positions = c.fit };
-  walked = c.walked;
   words = c.words;
 }
 
@@ -275,31 +268,26 @@ not-new names out more x e s d =
     let no : is_some (place_in out x) ≡ false = fresh-from x out (differ-fresh out x more (subst AllDiffer e d)) in absurd (cc (no, s))
 
 -- the function that is all of a repository
-pub main_whole : TypesWhereAssertedWalks → (r : Linked) (b : Body) (m : Main) → r.functions ≡ b ∷ [] → r.classes ≡ [] → IsMainIn b m → IsMainOf r m
-main_whole walks r b m f k h =
-    let form : IsSecondForm r = record { body = b; functions = f; classes = k; second = h.second } in
-    record {
-      is = (λ i. record { functions = f i; classes = k i }) ∙ (λ i. record { functions = h.is i ∷ []; classes = [] });
-      form = form;
-      types = (walks r form).0 h.walked;
-      words = h.words;
-    }
+pub main_whole : (r : Linked) (b : Body) (m : Main) → r.functions ≡ b ∷ [] → r.classes ≡ [] → Types r → IsMainIn b m → IsMainOf r m
+main_whole r b m f k types h = record {
+  is = (λ i. record { functions = f i; classes = k i }) ∙ (λ i. record { functions = h.is i ∷ []; classes = [] });
+  form = record { body = b; functions = f; classes = k; second = h.second };
+  types = types;
+  words = h.words;
+}
 
 one-same : (a b : Body) → a ∷ [] ≡ b ∷ [] → a ≡ b
 one-same a b e = cc
 
-pub not_whole : TypesWhereAssertedWalks → (r : Linked) (b : Body) → r.functions ≡ b ∷ [] → (IsSecondBody b → walks_asserted 0 b.positions ≡ true → ⊥)
-    → IsSecondForm r → Types r → ⊥
-not_whole walks r b f not form types =
-    let same : form.body ≡ b = one-same form.body b (sym form.functions ∙ f) in
-    not (subst IsSecondBody same form.second) (ap (λ (c : Body). walks_asserted 0 c.positions) (sym same) ∙ (walks r form).1 types)
+pub not_whole : (r : Linked) (b : Body) → r.functions ≡ b ∷ [] → (IsSecondBody b → ⊥) → IsSecondForm r → ⊥
+not_whole r b f not form = not (subst IsSecondBody (one-same form.body b (sym form.functions ∙ f)) form.second)
 
 pub not_one : (r : Linked) → (length r.functions ≡ 1 → ⊥) → IsSecondForm r → ⊥
 not_one r not form = not (ap (λ (bs : List Body). length bs) form.functions)
 
-pub ok_whole : TypesWhereAssertedWalks → (r : Linked) (b : Body) (o : Result Main Unfit) → r.functions ≡ b ∷ [] → r.classes ≡ [] → IfOk o (λ m. IsMainIn b m) → IfOk o (λ m. IsMainOf r m)
-ok_whole walks r b (Ok m) f k h = main_whole walks r b m f k h
-ok_whole walks r b (Err u) f k h = tt
+pub ok_whole : (r : Linked) (b : Body) (o : Result Main Unfit) → r.functions ≡ b ∷ [] → r.classes ≡ [] → Types r → IfOk o (λ m. IsMainIn b m) → IfOk o (λ m. IsMainOf r m)
+ok_whole r b (Ok m) f k types h = main_whole r b m f k types h
+ok_whole r b (Err u) f k types h = tt
 
 pub single : (xs : List Body) (x : Body) → 1 ≤ length xs → length xs ≤ 1 → x ≡ get_or xs 0 x → xs ≡ x ∷ []
 single [] x l m e = absurd (omega arith)

@@ -8,7 +8,6 @@ use Rattle.hhbc_repo.specs.Form.{FitsCode, FitsStated, FitsClaimed, FitClaimed, 
 use Rattle.hhbc_repo.specs.Linked.{Linked}
 use Rattle.hhbc_repo.specs.PlainTypes.{TypeName, one_int, type_named}
 use Rattle.hhbc_repo.specs.Shapes.{Types}
-use Rattle.hhbc_repo.specs.Walks.{walks_asserted}
 use Rattle.func_analyze.specs.Laws.{IsWord, AreWords}
 use Rattle.hhbbc_top.specs.declared.form.Step.{Step}
 use Rattle.hhbbc_top.specs.declared.form.Step.TheVariants as steps
@@ -44,11 +43,10 @@ pub record AreLines (count : ℕ) (ps : List Position) (ls : List Line) : Type 0
   pub fit : All (FitsClaimed count) ps
   pub words : AreWords ps
 
--- the last of them and no other returns, and each finds its slots on the stack
+-- the last of them and no other returns
 pub record AreCodes (count : ℕ) (ps : List Position) (ls : List Line) : Type 0 where
   pub are : ps ≡ map position_of ls
   pub fit : FitClaimed count ps
-  pub walked : walks_asserted 0 ps ≡ true
   pub words : AreWords ps
 
 abbrev pub is_return : Step → Bool
@@ -74,11 +72,10 @@ pub record IsHead (b : Body) : Type 0 where
   pub locals : length b.locals ≤ 255
   pub few : length b.positions ≤ 200
 
--- the function is the body, which is of the second form and finds its slots on the stack; its ints are of 64 bits
+-- the function is the body, which is of the second form; its ints are of 64 bits
 pub record IsMainIn (b : Body) (m : Main) : Type 0 where
   pub is : b ≡ body_of m
   pub second : IsSecondBody b
-  pub walked : walks_asserted 0 b.positions ≡ true
   pub words : AreWords b.positions
 
 -- the function is all of the repository, which is of the second form and keeps to its shapes

@@ -1,21 +1,19 @@
 //! The one function of a repository of the form that is annotated and run: `main`, without parameters, of constants, locals and one `RetC` at its end, with claims of plain types.
 
-ghost use Rattle.std.specs.Prelude.{◌≡◌, ◌≢◌, ◌↔◌, ◌<◌, ℕ, ℤ, true, [], ◌∷◌, All, Err, IfOk, IsTrue, MatchOption, Some, codes, length, map};
-ghost use Rattle.hhbc_repo.specs.Codes.{pops, pushes};
+ghost use Rattle.std.specs.Prelude.{◌≡◌, ◌≢◌, ◌↔◌, ◌<◌, ℕ, ℤ, [], ◌∷◌, All, Err, IfOk, IsTrue, MatchOption, Some, codes};
 ghost use Rattle.hhbc_repo.specs.Form.{IsSecondForm};
 ghost use Rattle.hhbc_repo.specs.Form as forms;
 ghost use Rattle.hhbc_repo.specs.LinkFaults.{place_in};
 ghost use Rattle.hhbc_repo.specs.PlainTypes as types;
-ghost use Rattle.hhbc_repo.specs.Shapes.{Types, reaches};
-ghost use Rattle.hhbc_repo.specs.Walks.{walks_asserted};
+ghost use Rattle.hhbc_repo.specs.Shapes.{Types};
 ghost use Rattle.hhbc_repo.specs.declared.code.Imm.TheVariants as imms;
 ghost use Rattle.type_lattice.specs.Types as lattice;
-ghost use Rattle.hhbbc_top.specs.Forms.{code_of, plain, position_of};
+ghost use Rattle.hhbbc_top.specs.Forms.{plain};
 ghost use Rattle.hhbbc_top.specs.Mains as mains;
 
 use hack_values::{NoMemory, Seq, Text};
 use hhbc_ops::Op;
-use hhbc_repo::{Assert, Body, Code, Imm, Position, Repo, types_where_asserted_walks};
+use hhbc_repo::{Assert, Body, Code, Imm, Position, Repo};
 use std::alloc::Global;
 use type_lattice::{HType, IntPart, Leaf, ObjPart, StrPart};
 
@@ -434,55 +432,15 @@ fn returns_last(lines: &[Line]) -> bool
     returned
 }
 
-/// How many slots a code takes from the stack, and how many it puts there.
-fn slots_of(step: Step) -> (usize, usize)
-    ensures { (result.0 ≡ length (pops (code_of step))) × (result.1 ≡ length (pushes (code_of step))) }
-{
-    match step {
-        Step::Null | Step::True | Step::False | Step::Int(_) | Step::CGetL(_) => (0, 1),
-        Step::PopC | Step::RetC => (1, 0),
-        Step::SetL(_) => (1, 1),
-    }
-}
-
-/// Whether each assertion finds its slot, with so many on the stack.
-fn reach(asserts: &[Assert], depth: usize) -> bool
-    ensures { result ≡ reaches asserts.now depth }
-{
-    for assert in asserts {
-        if let Assert::Stack(slot, _) = assert {
-            if (*slot as usize) >= depth {
-                return false;
-            }
-        }
-    }
-    true
-}
-
-/// Whether each code and each assertion finds its slots on the stack.
-fn walks(lines: &[Line]) -> bool
-    ensures { result ≡ walks_asserted 0 (map position_of lines.now) }
-{
-    let mut depth: usize = 0;
-    for line in lines {
-        let (taken, put) = slots_of(line.step);
-        if !reach(line.asserts.as_slice(), depth) || taken > depth {
-            return false;
-        }
-        depth = put + (depth - taken);
-    }
-    true
-}
-
-/// The codes of a body, where they are of the form and keep to the stack.
-#[tactic(auto, using(crate::proofs::Fitting::codes_made, crate::proofs::Fitting::not_last, crate::proofs::Fitting::not_walked))]
+/// The codes of a body, where they are of the form.
+#[tactic(auto, using(crate::proofs::Fitting::codes_made, crate::proofs::Fitting::not_last))]
 fn codes_of(alloc: Global, positions: &[Position], locals: usize) -> Result<Seq<Line>, Unfit>
     ensures read { IfOk result (λ lines. mains.AreCodes locals positions.now lines) }
-    ensures other { result ≡ Err Unfit.OtherForm → forms.FitClaimed locals positions.now → walks_asserted 0 positions.now ≡ true → ⊥ }
+    ensures other { result ≡ Err Unfit.OtherForm → forms.FitClaimed locals positions.now → ⊥ }
 {
     match lines_of(alloc, positions, locals) {
         Ok(lines) => {
-            if returns_last(lines.as_slice()) && walks(lines.as_slice()) {
+            if returns_last(lines.as_slice()) {
                 Ok(lines)
             } else {
                 Err(Unfit::OtherForm)
@@ -543,7 +501,7 @@ fn has_head(body: &Body) -> bool
 #[tactic(auto, using(crate::proofs::Fitting::head_of))]
 fn main_in(alloc: Global, body: &Body) -> Result<Main, Unfit>
     ensures read { IfOk result (λ main. mains.IsMainIn body.now main) }
-    ensures other { result ≡ Err Unfit.OtherForm → forms.IsSecondBody body.now → walks_asserted 0 body.now.positions ≡ true → ⊥ }
+    ensures other { result ≡ Err Unfit.OtherForm → forms.IsSecondBody body.now → ⊥ }
 {
     if !has_head(body) {
         return Err(Unfit::OtherForm);
@@ -561,7 +519,7 @@ fn coded(alloc: Global, body: &Body, locals: Seq<Text>) -> Result<Main, Unfit>
     requires head { mains.IsHead body.now }
     requires differ { forms.AllDiffer body.now.locals }
     ensures read { IfOk result (λ main. mains.IsMainIn body.now main) }
-    ensures other { result ≡ Err Unfit.OtherForm → forms.IsSecondBody body.now → walks_asserted 0 body.now.positions ≡ true → ⊥ }
+    ensures other { result ≡ Err Unfit.OtherForm → forms.IsSecondBody body.now → ⊥ }
 {
     match codes_of(alloc, body.positions.as_slice(), locals.as_slice().len()) {
         Ok(codes) => Ok(Main {
@@ -575,10 +533,10 @@ fn coded(alloc: Global, body: &Body, locals: Seq<Text>) -> Result<Main, Unfit>
 
 /// The function that is all of a repository of the form.
 pub fn main_of(alloc: Global, repo: &Repo) -> Result<Main, Unfit>
+    requires { Types repo.now }
     ensures read { IfOk result (λ main. mains.IsMainOf repo.now main) }
-    ensures other { result ≡ Err Unfit.OtherForm → IsSecondForm repo.now → Types repo.now → ⊥ }
+    ensures other { result ≡ Err Unfit.OtherForm → IsSecondForm repo.now → ⊥ }
 {
-    types_where_asserted_walks();
     let [body] = repo.functions() else {
         return Err(Unfit::OtherForm);
     };

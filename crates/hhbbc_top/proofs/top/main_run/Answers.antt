@@ -9,4 +9,4 @@ pub returns-in-Ok : goal.returns-in-Ok
 returns-in-Ok c = goes-with (Run c.args.steps c.args.asserted) c.args.repo.now c.in-Ok.main c.reported.result c.in-Ok.ensures.read c.reported.ensures
 
 pub returns-in-Err : goal.returns-in-Err
-returns-in-Err c = rw c.status_of.ensures (left-as (Run c.args.steps c.args.asserted) c.args.repo.now c.in-Err.unfit (λ e. record { types = c.requires; other = λ f. c.in-Err.ensures.other e f c.requires }))
+returns-in-Err c = rw c.status_of.ensures (left-as (Run c.args.steps c.args.asserted) c.args.repo.now c.in-Err.unfit (λ e. record { types = c.requires; other = λ f. c.in-Err.ensures.other e f }))
