@@ -6,6 +6,7 @@ use Rattle.type_lattice.proofs.Chains.{chain_length}
 use Rattle.hhbc_repo.specs.LinkFaults.{above, different}
 use Rattle.hhbc_repo.specs.Bodies.{numbers}
 use Rattle.hhbc_repo.proofs.Different.{different_le, different_length, different_end}
+use Rattle.hhbc_repo.proofs.Numbering.{numbers_length}
 
 has_first : (c x : ℕ) (xs : List ℕ) → c ≡ x → has c (x ∷ xs) ≡ true
 has_first c x xs e = let h : (c == x) ≡ true = eq-eqb c x e in rw h refl
@@ -31,10 +32,6 @@ numbers_has s (suc n) q l h = go (cases_lt s q) (numbers_has (suc s) n q)
     go : (s < q) ⊎ (q ≤ s) → (suc s ≤ q → q < suc s + n → has q (numbers (suc s) n) ≡ true) → has q (numbers s (suc n)) ≡ true
     go (inl k) i = has_later q s (numbers (suc s) n) (i k (omega arith))
     go (inr k) i = let e : q ≡ s = omega arith in has_first q s (numbers (suc s) n) e
-
-numbers_length : (s n : ℕ) → length (numbers s n) ≡ n
-numbers_length s zero = refl
-numbers_length s (suc n) = ap suc (numbers_length (suc s) n)
 
 module _ (t : Tree) where
   -- a look for a class on the way up

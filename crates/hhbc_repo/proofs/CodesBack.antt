@@ -1,5 +1,5 @@
 -- Codes and assertions come back from their numbers where no check fails, with other names for their labels alone.
-use Rattle.std.proofs.Common.{◌≡◌, ℕ, Bool, true, not, ◌&&◌, ◌||◌, List, [], ◌∷◌, ◌++◌, map, flat_map, Option, Some, None, option_map, is_some, refl, ap, ap₂}
+use Rattle.std.proofs.Common.{◌≡◌, Bool, true, not, ◌&&◌, ◌||◌, List, [], ◌∷◌, ◌++◌, map, flat_map, Option, Some, None, option_map, is_some, refl, ap, ap₂}
 use Rattle.std.specs.List.{list_all, list_any}
 use Rattle.std.proofs.lemmas.Bool.{and_parts}
 use Rattle.std.proofs.lemmas.Simd.{map-map}
@@ -32,12 +32,12 @@ use Rattle.hhbc_repo.specs.declared.link_fault.LinkKind.TheVariants as reasons
 use Rattle.hhbc_repo.specs.Bodies as linked
 use Rattle.hhbc_repo.specs.Canonical.{local_name, canonical_arm, canonical_operand, canonical_base, canonical_key, canonical_final, canonical_code, canonical_assert, canonical_position}
 use Rattle.hhbc_repo.specs.CodeSyntax as parts
-use Rattle.hhbc_repo.specs.LinkFaults.{Name, Whole, Place, names, dollar, known, class_names, class_of, locals_of, local_faults, type_faults, key_local, operand_faults, constant_faults, method_faults, instruction_faults, key_faults, base_faults, last_key, code_faults, assert_faults, position_faults}
+use Rattle.hhbc_repo.specs.LinkFaults.{Name, Whole, Place, names, dollar, known, class_names, class_of, locals_of, local_faults, type_faults, key_local, operand_faults, instruction_faults, key_faults, base_faults, last_key, code_faults, assert_faults, position_faults}
 use Rattle.hhbc_repo.specs.Resolved.{local_number, class_number, resolved, resolved_arm, resolved_operand, resolved_base, resolved_key, resolved_final, resolved_code, resolved_assert, resolved_position, resolved_body}
 use Rattle.hhbc_repo.proofs.Relabelled.{relabelled_arm, relabelled_operand, relabelled_code, relabelled_position, new_label}
 use Rattle.hhbc_repo.specs.TypeFits.{type_fits, is_constraint}
 use Rattle.hhbc_repo.specs.Fits.{is_index, operand_fits, operands_fit, base_fits, query_key_fits, final_fits, code_fits, assert_fits, position_fits}
-use Rattle.hhbc_repo.proofs.NoFaults.{empty_left, empty_right, passes}
+use Rattle.hhbc_repo.proofs.NoFaults.{empty_left, empty_right, passes, constant_class, method_class}
 use Rattle.hhbc_repo.proofs.SoundLinks.{linked_class_names}
 use Rattle.hhbc_repo.proofs.TypesBack.{name_back, class_back, type_back}
 
@@ -110,22 +110,14 @@ module _ (w : Whole) (b : BodyParts) (owner : Name) where
       (operand_back k m p.0 (empty_left (operand_faults here m) (flat_map (operand_faults here) ms) e))
       (operands_back ks ms p.1 (empty_right (operand_faults here m) (flat_map (operand_faults here) ms) e))
 
-  constant_class : (name class : Name) (o : Option ℕ) → constant_faults here name class o ≡ [] → is_some o ≡ true
-  constant_class name class None e = absurd (cc)
-  constant_class name class (Some c) e = refl
-
-  method_class : (name class : Name) (n : ℕ) (o : Option ℕ) → method_faults here name class n o ≡ [] → is_some o ≡ true
-  method_class name class n None e = absurd (cc)
-  method_class name class n (Some c) e = refl
-
   some_class : (class : Name) → is_some (class_of w class) ≡ true → class_name all (class_number w class) ≡ class
   some_class class h = class_back w owner class (ap (λ (c : Bool). known c owner class) h)
 
   instruction_back : (op : Op) (ms : List ImmParts) → operands_fit (kinds_of op) ms ≡ true → instruction_faults here op ms ≡ [] → map (canonical_operand all body) (map (resolved_operand w b) ms) ≡ map (relabelled_operand label) ms
   instruction_back ops.ClsCnsD (imms.Name name ∷ imms.Class class ∷ []) h e =
-      ap (λ (c : Name). imms.Name name ∷ imms.Class c ∷ []) (some_class class (constant_class name class (class_of w class) e))
+      ap (λ (c : Name). imms.Name name ∷ imms.Class c ∷ []) (some_class class (constant_class here name class (class_of w class) e))
   instruction_back ops.FCallClsMethodD (imms.Count n ∷ imms.Name name ∷ imms.Class class ∷ []) h e =
-      ap (λ (c : Name). imms.Count n ∷ imms.Name name ∷ imms.Class c ∷ []) (some_class class (method_class name class n (class_of w class) e))
+      ap (λ (c : Name). imms.Count n ∷ imms.Name name ∷ imms.Class c ∷ []) (some_class class (method_class here name class n (class_of w class) e))
   instruction_back ops.FCallFuncD (imms.Count n ∷ imms.Name name ∷ []) h e = refl
   instruction_back op ms h e = operands_back (kinds_of op) ms h e
 

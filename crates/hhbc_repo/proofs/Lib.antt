@@ -1,3 +1,5 @@
+pub mod Numbering
+pub mod PartsOfTypes
 pub mod FirstForm
 pub mod Growing
 pub mod LocalCodes

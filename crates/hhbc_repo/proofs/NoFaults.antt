@@ -1,5 +1,5 @@
 -- What a list of checks says where none of them fails.
-use Rattle.std.proofs.Common.{◌≡◌, ◌≤◌, ℕ, zero, suc, ◌+◌, Bool, true, false, ◌||◌, not, List, [], ◌∷◌, ◌++◌, Some, slice_get, length, nat_le, refl, sym, ap, ◌∙◌, subst, arith, append_assoc, map, take}
+use Rattle.std.proofs.Common.{◌≡◌, ◌≤◌, ℕ, zero, suc, ◌+◌, Bool, true, false, ◌||◌, not, List, [], ◌∷◌, ◌++◌, Option, Some, None, is_some, slice_get, length, nat_le, refl, sym, ap, ◌∙◌, subst, arith, append_assoc, map, take}
 use Rattle.std.proofs.lemmas.Bool.{leb-true, and_from, and_parts}
 use Rattle.std.proofs.lemmas.List.{length-append}
 use Rattle.std.proofs.lemmas.List.Folds.{list_any-append}
@@ -12,7 +12,7 @@ use Rattle.hhbc_repo.specs.declared.parts.BodyParts.{BodyParts}
 use Rattle.hhbc_repo.specs.declared.parts.ClassParts.{ClassParts}
 use Rattle.hhbc_repo.specs.declared.parts.PropertyParts.{PropertyParts}
 use Rattle.hhbc_repo.specs.Names.{distinct_from}
-use Rattle.hhbc_repo.specs.LinkFaults.{Name, Whole, is_name, names, check, within, differ_from, class_names, parents, parent_faults, ancestors, different, stated_faults, repeated_functions, class_checks, property_checks, each_class}
+use Rattle.hhbc_repo.specs.LinkFaults.{Name, Whole, Place, is_name, names, check, within, differ_from, class_names, parents, parent_faults, ancestors, different, stated_faults, constant_faults, method_faults, repeated_functions, class_checks, property_checks, each_class}
 
 pub empty_left : {A : Type 0} (xs ys : List A) → xs ++ ys ≡ [] → xs ≡ []
 empty_left [] ys h = refl
@@ -28,6 +28,15 @@ passes false kind owner name found h = absurd (cc)
 
 pub fits_within : (limit count : ℕ) (owner name : Name) → within limit count owner name ≡ [] → count ≤ limit
 fits_within limit count owner name h = leb-true count limit (passes (nat_le count limit) kinds.OverLimit owner name count h)
+
+-- the class of a constant or a method that passes is there
+pub constant_class : (p : Place) (name class : Name) (o : Option ℕ) → constant_faults p name class o ≡ [] → is_some o ≡ true
+constant_class p name class None e = absurd (cc)
+constant_class p name class (Some c) e = refl
+
+pub method_class : (p : Place) (name class : Name) (n : ℕ) (o : Option ℕ) → method_faults p name class n o ≡ [] → is_some o ≡ true
+method_class p name class n None e = absurd (cc)
+method_class p name class n (Some c) e = refl
 
 pub not_false : (b : Bool) → not b ≡ true → b ≡ false
 not_false true h = absurd (cc)

@@ -24,6 +24,7 @@ use Rattle.hhbc_repo.specs.Bodies.{numbers}
 use Rattle.hhbc_repo.specs.Languages.{Lang, Behind, Ended, Both, Separated}
 use Rattle.hhbc_repo.specs.TypeSyntax.{Atom, Null, False, True, Bools, Int, OneInt, Str, OneStr, Obj, Exact, Sub, Vec, Dict, Keyset, AnAtom, line, Ascend, is_key_atom, is_broad, Written, Never, Cell, Of, ALeaf, AKeyType, TypeAtom, Uninit, Plain, VecOf, DictOf, KeysetOf, ATypeAtom, type_line, WrittenType, NeverType, CellType, UninitCell, AtomsType, AWrittenType, AWrittenConstraint, atom_classes, classes_in, type_classes, leaf_with, leaf_from, leaf_of, type_plain, type_with, type_from, type_of, constraint_of, AType, AConstraint}
 use Rattle.hhbc_repo.specs.TypeFits.{short_in_range, int_in_range, str_in_range, leaf_in_range, key_in_range, entry_in_range, where_there, type_in_range, obj_classes, vec_classes, dict_classes, classes_of, type_fits, agree, no_one_int, no_one_str, no_one_class, is_constraint, constraint_fits}
+use Rattle.hhbc_repo.proofs.Numbering.{numbers_on}
 
 -- ---- proper tokens
 
@@ -227,16 +228,6 @@ keys_classless (a ∷ xs) h =
     ap (λ l. l ++ flat_map atom_classes xs) (key_classless a p.0) ∙ keys_classless xs p.1
 
 -- ---- the classes of leaves, as they come
-
-numbers_on : (n j k : ℕ) → numbers n j ++ numbers (n + j) k ≡ numbers n (j + k)
-numbers_on n zero k =
-    let first : n + 0 ≡ n = omega arith in
-    let many : k ≡ 0 + k = omega arith in
-    ap₂ numbers first many
-numbers_on n (suc j) k =
-    let first : n + suc j ≡ suc n + j = omega arith in
-    let many : suc (j + k) ≡ suc j + k = omega arith in
-    ap (λ l. n ∷ l) (ap (λ m. numbers (suc n) j ++ numbers m k) first ∙ numbers_on (suc n) j k) ∙ ap (numbers n) many
 
 numbers_joined : (n : ℕ) (before now more : List ℕ) (xs ys : List (List ℕ)) → now ≡ before ++ numbers n (length xs) → more ≡ now ++ numbers (n + length xs) (length ys)
     → more ≡ before ++ numbers n (length (xs ++ ys))

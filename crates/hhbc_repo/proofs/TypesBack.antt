@@ -1,5 +1,5 @@
 -- Types come back from the numbers of their classes, where each of their classes is there.
-use Rattle.std.proofs.Common.{◌≡◌, ◌<◌, ℕ, zero, suc, ◌+◌, true, not, ◌&&◌, List, [], ◌∷◌, ◌++◌, map, flat_map, length, slice_get, get_or, Option, Some, None, option_map, is_some, refl, sym, ap, ap₂, ◌∙◌, arith, append_assoc, length-append}
+use Rattle.std.proofs.Common.{◌≡◌, ◌<◌, ℕ, zero, suc, ◌+◌, true, ◌&&◌, List, [], ◌∷◌, ◌++◌, map, flat_map, length, slice_get, get_or, Option, Some, None, option_map, is_some, refl, sym, ap, ap₂, ◌∙◌, arith, append_assoc, length-append}
 use Rattle.std.specs.List.{list_all}
 use Rattle.std.specs.Str.{bytes_eq}
 use Rattle.std.proofs.Math.Seq.{get_or-append_seam}
@@ -13,7 +13,6 @@ use Rattle.type_lattice.specs.declared.types.ObjPart.{ObjPart}
 use Rattle.type_lattice.specs.declared.types.ObjPart.TheVariants as objs
 use Rattle.type_lattice.specs.declared.types.Leaf.{Leaf}
 use Rattle.type_lattice.specs.declared.types.HType.{HType}
-use Rattle.type_lattice.specs.Never.{no_objs}
 use Rattle.type_lattice.specs.TypeText.{named, class_name}
 use Rattle.hhbc_repo.specs.declared.link_fault.LinkKind.TheVariants as reasons
 use Rattle.hhbc_repo.specs.declared.parts.TypeParts.{TypeParts}
@@ -26,6 +25,7 @@ use Rattle.hhbc_repo.specs.WrittenTypes as written
 use Rattle.hhbc_repo.proofs.NoFaults.{empty_left, empty_right, passes}
 use Rattle.hhbc_repo.proofs.NamesMet.{found_names}
 use Rattle.hhbc_repo.proofs.NumbersPut.{same_name, absent_names}
+use Rattle.hhbc_repo.proofs.PartsOfTypes.{key_kept, keyset_kept}
 
 -- ---- names that are there
 
@@ -76,35 +76,15 @@ module _ (f : ℕ → ℕ) where
   vec_back None rest s n e = refl
   vec_back (Some l) rest s n e = ap (λ (l : Leaf). Some l) (leaf_back l rest s n e)
 
-  -- a part without objects has no class
-  no_class : (o : ObjPart) → no_objs o ≡ true → obj_with f o ≡ o
-  no_class objs.No h = refl
-  no_class (objs.Exact c) h = absurd (cc)
-  no_class (objs.Sub c) h = absurd (cc)
-  no_class objs.Any h = refl
-
-  key_back : (k : Leaf) → key_in_range k ≡ true → leaf_with f k ≡ k
-  key_back k h =
-      let kinds = not k.vec && (not k.dict && not k.keyset) in
-      let a = and_parts (leaf_in_range k) (not k.null && (not k.no && (not k.yes && (no_objs k.obj && kinds)))) h in
-      let b = and_parts (not k.null) (not k.no && (not k.yes && (no_objs k.obj && kinds))) a.1 in
-      let c = and_parts (not k.no) (not k.yes && (no_objs k.obj && kinds)) b.1 in
-      let d = and_parts (not k.yes) (no_objs k.obj && kinds) c.1 in
-      ap (λ (o : ObjPart). record k { obj = o }) (no_class k.obj (and_parts (no_objs k.obj) kinds d.1).0)
-
   entry_back : (e : Leaf × Leaf) (s n : ℕ) → entry_in_range e ≡ true → obj_classes e.1.obj ≡ numbers s n → entry_placed s (entry_with f e) ≡ e
   entry_back e s n h k =
-      let p = key_back e.0 (and_parts (key_in_range e.0) (leaf_in_range e.1) h).0 in
+      let p = key_kept f e.0 (and_parts (key_in_range e.0) (leaf_in_range e.1) h).0 in
       let q = leaf_back e.1 [] s n (append-nil (obj_classes e.1.obj) ∙ k) in
       λ i. (p i, q i)
 
   dict_back : (d : Option (Leaf × Leaf)) (s n : ℕ) → where_there entry_in_range d ≡ true → dict_classes d ≡ numbers s n → option_map (entry_placed s) (option_map (entry_with f) d) ≡ d
   dict_back None s n h k = refl
   dict_back (Some e) s n h k = ap (λ (e : Leaf × Leaf). Some e) (entry_back e s n h k)
-
-  keyset_back : (k : Option Leaf) → where_there key_in_range k ≡ true → option_map (leaf_with f) k ≡ k
-  keyset_back None h = refl
-  keyset_back (Some l) h = ap (λ (l : Leaf). Some l) (key_back l h)
 
   -- ---- the names of the classes
 
@@ -160,7 +140,7 @@ module _ (f : ℕ → ℕ) where
         let objects = objs_back t.obj (vec_classes t.vec ++ dict_classes t.dict) 0 n e in
         let vec = vec_back t.vec (dict_classes t.dict) a m.0 from_a in
         let dict = dict_back t.dict b l.0 z.0 from_b in
-        let keyset = keyset_back t.keyset z.1 in
+        let keyset = keyset_kept f t.keyset z.1 in
         λ i. record t { obj = objects i; vec = vec i; dict = dict i; keyset = keyset i }
 
 -- ---- in a repository

@@ -6,7 +6,7 @@ use Rattle.std.proofs.Common.{w64}
 use Rattle.std.specs.List.{list_all}
 use Rattle.std.specs.Str.{bytes_eq}
 use Rattle.std.proofs.lemmas.Bool.{and_from, and_parts, eq-eqb, le-leb, leb-true}
-use Rattle.std.proofs.lemmas.List.{append-nil, length-map, map-append}
+use Rattle.std.proofs.lemmas.List.{append-nil, length-map}
 use Rattle.std.proofs.lemmas.List.Folds.{list_any-append}
 use Rattle.std.proofs.lemmas.Slice.Eq.{bytes_eq-Decides}
 use Rattle.hhas_lex.specs.Shape.{is_int64}
@@ -33,7 +33,9 @@ use Rattle.hhbc_repo.specs.WrittenTypes.{obj_placed, leaf_placed, entry_placed, 
 use Rattle.hhbc_repo.specs.WrittenTypes as written
 use Rattle.hhbc_repo.specs.Within.{type_within}
 use Rattle.hhbc_repo.proofs.NoFaults.{not_false}
+use Rattle.hhbc_repo.proofs.Numbering.{numbers_on}
 use Rattle.hhbc_repo.proofs.NumbersPut.{place_step}
+use Rattle.hhbc_repo.proofs.PartsOfTypes.{there_same, key_kept, keyset_kept, classes_named, obj_count, vec_count}
 use Rattle.hhbc_repo.proofs.SpelledTypes.{all_front, all_back, all_both}
 
 -- ---- names by number
@@ -73,55 +75,16 @@ place_of_number all n h k = (numbered_place [] all n h (leb-true (suc n) (length
 
 -- ---- types with the names of their classes
 
-numbers_on : (n j k : ℕ) → numbers n j ++ numbers (n + j) k ≡ numbers n (j + k)
-numbers_on n zero k =
-    let first : n + 0 ≡ n = omega arith in
-    let many : k ≡ 0 + k = omega arith in
-    ap₂ numbers first many
-numbers_on n (suc j) k =
-    let first : n + suc j ≡ suc n + j = omega arith in
-    let many : suc (j + k) ≡ suc j + k = omega arith in
-    ap (λ l. n ∷ l) (ap (λ m. numbers (suc n) j ++ numbers m k) first ∙ numbers_on (suc n) j k) ∙ ap (numbers n) many
-
-there_still : {A : Type 0} (g : A → A) (test : A → Bool) → ((a : A) → test (g a) ≡ test a) → (o : Option A) → where_there test (option_map g o) ≡ where_there test o
-there_still g test h None = refl
-there_still g test h (Some a) = h a
-
 module _ (all : List Name) where
   abbrev called : ℕ → Name
   called c = class_name all c
-
-  obj_called : (o : ObjPart) → written.obj_classes all o ≡ map called (obj_classes o)
-  obj_called objs.No = refl
-  obj_called (objs.Exact c) = refl
-  obj_called (objs.Sub c) = refl
-  obj_called objs.Any = refl
-
-  vec_called : (v : Option Leaf) → written.vec_classes all v ≡ map called (vec_classes v)
-  vec_called None = refl
-  vec_called (Some l) = obj_called l.obj
-
-  dict_called : (d : Option (Leaf × Leaf)) → written.dict_classes all d ≡ map called (dict_classes d)
-  dict_called None = refl
-  dict_called (Some e) = obj_called e.1.obj
-
-  classes_called : (t : HType) → (canonical_type all t).classes ≡ map called (classes_of t)
-  classes_called t =
-      ap₂ (λ (x y : List Name). x ++ y) (obj_called t.obj) (ap₂ (λ (x y : List Name). x ++ y) (vec_called t.vec) (dict_called t.dict) ∙ sym (map-append called (vec_classes t.vec) (dict_classes t.dict)))
-      ∙ sym (map-append called (obj_classes t.obj) (vec_classes t.vec ++ dict_classes t.dict))
-
-  obj_count : (o : ObjPart) → length (written.obj_classes all o) ≡ length (obj_classes o)
-  obj_count o = ap length (obj_called o) ∙ length-map (obj_classes o) called
-
-  vec_count : (v : Option Leaf) → length (written.vec_classes all v) ≡ length (vec_classes v)
-  vec_count v = ap length (vec_called v) ∙ length-map (vec_classes v) called
 
   placed_range : (t : HType) → type_in_range (canonical_type all t).t ≡ type_in_range t
   placed_range t =
       let a = length (written.obj_classes all t.obj) in
       let b = a + length (written.vec_classes all t.vec) in
       ap₂ (λ (v d : Bool). int_in_range t.int && (str_in_range t.str && (v && (d && where_there key_in_range t.keyset))))
-      (there_still (leaf_placed a) leaf_in_range (λ l. refl) t.vec) (there_still (entry_placed b) entry_in_range (λ e. refl) t.dict)
+      (there_same (leaf_placed a) leaf_in_range (λ l. refl) t.vec) (there_same (entry_placed b) entry_in_range (λ e. refl) t.dict)
 
   obj_numbers : (n : ℕ) (o : ObjPart) → obj_classes (obj_placed n o) ≡ numbers n (length (obj_classes o))
   obj_numbers n objs.No = refl
@@ -143,13 +106,13 @@ module _ (all : List Name) where
       let a = length (obj_classes t.obj) in
       let b = length (vec_classes t.vec) in
       let c = length (dict_classes t.dict) in
-      let from_a : length (written.obj_classes all t.obj) ≡ a = obj_count t.obj in
-      let from_b : length (written.obj_classes all t.obj) + length (written.vec_classes all t.vec) ≡ a + b = ap₂ (λ (x y : ℕ). x + y) from_a (vec_count t.vec) in
+      let from_a : length (written.obj_classes all t.obj) ≡ a = obj_count all t.obj in
+      let from_b : length (written.obj_classes all t.obj) + length (written.vec_classes all t.vec) ≡ a + b = ap₂ (λ (x y : ℕ). x + y) from_a (vec_count all t.vec) in
       let x : List ℕ = numbers 0 a in
       let first : a ≡ 0 + a = omega arith in
       let counted : a + (b + c) ≡ length (canonical_type all t).classes =
       ap (λ (n : ℕ). a + n) (sym (length-append (vec_classes t.vec) (dict_classes t.dict))) ∙ sym (length-append (obj_classes t.obj) (vec_classes t.vec ++ dict_classes t.dict))
-      ∙ sym (length-map (classes_of t) called) ∙ ap length (sym (classes_called t)) in
+      ∙ sym (length-map (classes_of t) called) ∙ ap length (sym (classes_named all t)) in
       ap₂ (λ (o v : List ℕ). o ++ v) (obj_numbers 0 t.obj)
       (ap₂ (λ (v d : List ℕ). v ++ d)
       (vec_numbers (length (written.obj_classes all t.obj)) t.vec ∙ ap (λ n. numbers n b) from_a)
@@ -170,29 +133,7 @@ module _ (all : List Name) where
       and_from (type_in_range u.t) (bytes_eq (classes_of u.t) (numbers 0 (length u.classes)) && list_all is_word u.classes) (placed_range t ∙ p.0)
       (and_from (bytes_eq (classes_of u.t) (numbers 0 (length u.classes))) (list_all is_word u.classes)
       ((bytes_eq-Decides (classes_of u.t) (numbers 0 (length u.classes))).1 (placed_classes t))
-      (ap (list_all is_word) (classes_called t) ∙ called_words h (classes_of t) p.1))
-
--- ---- parts without classes
-
-module _ (f : ℕ → ℕ) where
-  no_class : (o : ObjPart) → no_objs o ≡ true → obj_with f o ≡ o
-  no_class objs.No h = refl
-  no_class (objs.Exact c) h = absurd (cc)
-  no_class (objs.Sub c) h = absurd (cc)
-  no_class objs.Any h = refl
-
-  key_kept : (k : Leaf) → key_in_range k ≡ true → leaf_with f k ≡ k
-  key_kept k h =
-      let kinds = not k.vec && (not k.dict && not k.keyset) in
-      let a = and_parts (leaf_in_range k) (not k.null && (not k.no && (not k.yes && (no_objs k.obj && kinds)))) h in
-      let b = and_parts (not k.null) (not k.no && (not k.yes && (no_objs k.obj && kinds))) a.1 in
-      let c = and_parts (not k.no) (not k.yes && (no_objs k.obj && kinds)) b.1 in
-      let d = and_parts (not k.yes) (no_objs k.obj && kinds) c.1 in
-      ap (λ (o : ObjPart). record k { obj = o }) (no_class k.obj (and_parts (no_objs k.obj) kinds d.1).0)
-
-  keyset_kept : (k : Option Leaf) → where_there key_in_range k ≡ true → option_map (leaf_with f) k ≡ k
-  keyset_kept None h = refl
-  keyset_kept (Some l) h = ap (λ (l : Leaf). Some l) (key_kept l h)
+      (ap (list_all is_word) (classes_named all t) ∙ called_words h (classes_of t) p.1))
 
 -- ---- in a repository whose classes have different names
 
@@ -270,7 +211,7 @@ module _ (w : Whole) (apart : distinct (class_names w) ≡ true) where
       → (type_faults w owner (canonical_type (class_names w) t) ≡ []) × (resolved_type w (canonical_type (class_names w) t) ≡ t)
   type_forth owner t h =
       let p = and_parts (type_in_range t) (list_all listed (classes_of t)) h in
-      let named_so = classes_called (class_names w) t in (
+      let named_so = classes_named (class_names w) t in (
         ap (flat_map (class_faults w owner)) named_so ∙ classes_known owner (classes_of t) p.1,
         ap (λ (l : List Name). type_with (class_at w l) (canonical_type (class_names w) t).t) named_so ∙ resolves_forth t h,
       )

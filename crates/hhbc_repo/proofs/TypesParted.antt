@@ -30,6 +30,8 @@ use Rattle.hhbc_repo.specs.declared.parts.TypeParts.{TypeParts}
 use Rattle.hhbc_repo.proofs.AtomsSpelled.{Segment, segments, switch_segment, bools_segment, ints_segment, strs_segment, objs_segment, short_fits, atom_fits, atom_spelled, atom_inner, Climbs, climbs_both}
 use Rattle.hhbc_repo.proofs.InnerTokens.{Inner, inner_word, inner_both, inner_bracketed}
 use Rattle.hhbc_repo.proofs.LeavesWritten.{leaf_written, key_written, leaf_is_cell, key_is_whole, first_number}
+use Rattle.hhbc_repo.proofs.Numbering.{numbers_length}
+use Rattle.hhbc_repo.proofs.PartsOfTypes.{classes_named, obj_count, vec_count}
 use Rattle.hhbc_repo.proofs.SpelledTypes.{all_front, all_back}
 
 -- ---- atoms of types
@@ -297,10 +299,6 @@ keyset_part n (Some k) t range e = go (whole_key k) refl
 
 -- ---- classes numbered as they come, and their names
 
-length_numbers : (n k : ℕ) → length (numbers n k) ≡ k
-length_numbers n zero = refl
-length_numbers n (suc k) = ap (λ (m : ℕ). suc m) (length_numbers (suc n) k)
-
 later_numbers : (c n : ℕ) (xs ys : List ℕ) → c ∷ xs ≡ n ∷ ys → xs ≡ ys
 later_numbers c n xs ys h = cc
 
@@ -327,42 +325,9 @@ pub names_numbered : (xs : List Name) → map (class_name xs) (numbers 0 (length
 names_numbered [] = refl
 names_numbered (x ∷ xs) = ap (λ (l : List Name). x ∷ l) (names_later x xs 0 (length xs) ∙ names_numbered xs)
 
-obj_named : (names : List Name) (p : ObjPart) → written.obj_classes names p ≡ map (class_name names) (obj_classes p)
-obj_named names objs.No = refl
-obj_named names (objs.Exact c) = refl
-obj_named names (objs.Sub c) = refl
-obj_named names objs.Any = refl
-
-vec_named : (names : List Name) (o : Option Leaf) → written.vec_classes names o ≡ map (class_name names) (vec_classes o)
-vec_named names None = refl
-vec_named names (Some l) = obj_named names l.obj
-
-dict_named : (names : List Name) (o : Option (Leaf × Leaf)) → written.dict_classes names o ≡ map (class_name names) (dict_classes o)
-dict_named names None = refl
-dict_named names (Some e) = obj_named names e.1.obj
-
-obj_count : (names : List Name) (p : ObjPart) → length (written.obj_classes names p) ≡ length (obj_classes p)
-obj_count names objs.No = refl
-obj_count names (objs.Exact c) = refl
-obj_count names (objs.Sub c) = refl
-obj_count names objs.Any = refl
-
-vec_count : (names : List Name) (o : Option Leaf) → length (written.vec_classes names o) ≡ length (vec_classes o)
-vec_count names None = refl
-vec_count names (Some l) = obj_count names l.obj
-
 -- the names of a type's classes, in the order of its text
 abbrev pub named_classes : List Name → HType → List Name
 named_classes names t = written.obj_classes names t.obj ++ (written.vec_classes names t.vec ++ written.dict_classes names t.dict)
-
-classes_named : (names : List Name) (t : HType) → named_classes names t ≡ map (class_name names) (classes_of t)
-classes_named names t =
-    let name = class_name names in
-    let first = obj_classes t.obj in
-    let second = vec_classes t.vec in
-    let third = dict_classes t.dict in
-    ap₂ (λ (l m : List Name). l ++ m) (obj_named names t.obj) (ap₂ (λ (l m : List Name). l ++ m) (vec_named names t.vec) (dict_named names t.dict) ∙ sym (map-append name second third))
-    ∙ sym (map-append name first (second ++ third))
 
 -- ---- types
 
@@ -387,7 +352,7 @@ type_facts t h =
     let c = and_parts (where_there leaf_in_range t.t.vec) _ b.1 in
     let d = and_parts (where_there entry_in_range t.t.dict) (where_there key_in_range t.t.keyset) c.1 in
     let numbered : classes_of t.t ≡ all = (bytes_eq-Decides (classes_of t.t) all).0 q.0 in
-    let count : length t.classes ≡ length (classes_of t.t) = sym (ap (λ (l : List ℕ). length l) numbered ∙ length_numbers 0 (length t.classes)) in
+    let count : length t.classes ≡ length (classes_of t.t) = sym (ap (λ (l : List ℕ). length l) numbered ∙ numbers_length 0 (length t.classes)) in
     let named : named_classes t.classes t.t ≡ t.classes = classes_named t.classes t.t ∙ ap (map (class_name t.classes)) numbered ∙ names_numbered t.classes in
     record {
       int = a.0;

@@ -39,16 +39,18 @@ use Rattle.hhbc_repo.specs.declared.link_fault.LinkKind.TheVariants as reasons
 use Rattle.hhbc_repo.specs.Bodies.{bodies, numbers}
 use Rattle.hhbc_repo.specs.declared.parts.ClassParts.{ClassParts}
 use Rattle.hhbc_repo.specs.CodeSyntax as parts
-use Rattle.hhbc_repo.specs.LinkFaults.{Name, Whole, Place, names, place_in, as_it_is, dollar, class_names, class_of, known, differ_from, locals_of, labels_of, position_in, positions_of, local_faults, class_faults, type_faults, stated_faults, assert_faults, key_local, operand_faults, constant_faults, method_faults, instruction_faults, key_faults, base_faults, last_key, code_faults, position_faults, limit_faults, body_faults, faults}
+use Rattle.hhbc_repo.specs.LinkFaults.{Name, Whole, Place, names, place_in, as_it_is, dollar, class_names, class_of, known, differ_from, locals_of, labels_of, position_in, positions_of, local_faults, class_faults, type_faults, stated_faults, assert_faults, key_local, operand_faults, instruction_faults, key_faults, base_faults, last_key, code_faults, position_faults, limit_faults, body_faults, faults}
 use Rattle.hhbc_repo.specs.Names.{distinct}
-use Rattle.hhbc_repo.specs.Resolved.{or_zero, named_class, class_at, obj_with, leaf_with, entry_with, type_with, resolved_type, label_here, label_from, local_number, label_number, class_number, resolved_assert, resolved_arm, resolved_operand, resolved_base, resolved_key, resolved_final, resolved_code, resolved_position, resolved_item, resolved_body, resolved}
+use Rattle.hhbc_repo.specs.Resolved.{or_zero, named_class, class_at, obj_with, leaf_with, entry_with, type_with, resolved_type, local_number, label_number, class_number, resolved_assert, resolved_arm, resolved_operand, resolved_base, resolved_key, resolved_final, resolved_code, resolved_position, resolved_item, resolved_body, resolved}
 use Rattle.hhbc_repo.specs.TypeFits.{int_in_range, str_in_range, leaf_in_range, key_in_range, entry_in_range, where_there, type_in_range, obj_classes, vec_classes, dict_classes, classes_of, type_fits, agree, no_one_int, no_one_str, no_one_class, is_constraint, constraint_fits}
 use Rattle.hhbc_repo.specs.Fits.{is_index, is_label, has_no_text, has_text, arm_fits, text_arm_fits, arms_fit, text_arms_fit, operand_fits, operands_fit, base_fits, key_fits, query_key_fits, set_key_fits, change_key_fits, final_fits, code_fits, assert_fits, position_fits, item_fits, nests, body_fits, const_fits, property_fits, class_fits, parts_fit}
 use Rattle.hhbc_repo.specs.Ranges.{few_iterators}
 use Rattle.hhbc_repo.specs.Within.{Bounds, bounds_of, type_within, constraint_within, target_within, arm_within, text_arm_within, arms_within, text_arms_within, local_within, operand_within, operands_within, base_within, key_within, appends, is_nullsafe, is_query, query_key_within, set_key_within, change_key_within, final_within, code_within, assert_within, position_within, in_limits, body_within}
-use Rattle.hhbc_repo.proofs.NoFaults.{empty_left, empty_right, passes, differ}
+use Rattle.hhbc_repo.proofs.NoFaults.{empty_left, empty_right, passes, differ, constant_class, method_class}
+use Rattle.hhbc_repo.proofs.CanonicalItems.{label_among}
 use Rattle.hhbc_repo.proofs.Numbered.{place-within}
 use Rattle.hhbc_repo.proofs.NumbersPut.{absent_names}
+use Rattle.hhbc_repo.proofs.PartsOfTypes.{there_same}
 use Rattle.hhbc_repo.proofs.SpelledTypes.{all_both}
 use Rattle.hhbc_repo.proofs.BodiesPass.{all_pass}
 use Rattle.hhbc_repo.proofs.SoundLinks.{passed}
@@ -71,18 +73,6 @@ class_there w owner name h = go (class_of w name) refl (passes (is_some (class_o
     go (Some n) e t = le-leb (suc n) (length (class_names w)) (place-within (class_names w) name n e)
 
 -- ---- labels
-
-here_within : (n m later : ℕ) (o : Option ℕ) → n ≤ m → later ≤ m → label_here n o later ≤ m
-here_within n m later None h k = k
-here_within n m later (Some i) h k = h
-
-label_within : (n : ℕ) (is : List ItemParts) (name : Name) → label_from n is name ≤ n + length (flat_map position_in is)
-label_within n [] name = omega arith
-label_within n (items.Label other ∷ more) name = here_within n (n + length (flat_map position_in more)) (label_from n more name) (place_in (other ∷ []) name) (omega arith) (label_within n more name)
-label_within n (items.Position p ∷ more) name = let h = label_within (suc n) more name in omega (arith, h)
-label_within n (items.Try ∷ more) name = label_within n more name
-label_within n (items.Catch ∷ more) name = label_within n more name
-label_within n (items.End ∷ more) name = label_within n more name
 
 positions_linked : (w : Whole) (b : BodyParts) (is : List ItemParts) → length (flat_map (resolved_item w b) is) ≡ length (flat_map position_in is)
 positions_linked w b [] = refl
@@ -137,10 +127,6 @@ module _ (f : ℕ → ℕ) where
 
   whole_same : (l : Leaf) → whole_leaf (leaf_with f l) ≡ whole_leaf l
   whole_same l = ap (λ (c : Bool). l.null && (l.no && (l.yes && (all_ints l.int && (all_strs l.str && (c && (l.vec && (l.dict && l.keyset)))))))) (all_objs_same l.obj)
-
-  there_same : {A : Type 0} (g : A → A) (test : A → Bool) → ((a : A) → test (g a) ≡ test a) → (o : Option A) → where_there test (option_map g o) ≡ where_there test o
-  there_same g test h None = refl
-  there_same g test h (Some a) = h a
 
   absent_same : {A : Type 0} (g : A → A) (o : Option A) → is_absent (option_map g o) ≡ is_absent o
   absent_same g None = refl
@@ -234,7 +220,7 @@ module _ (w : Whole) (b : BodyParts) (owner : Name) where
 
   target_links : (name : Name) → target_within bounds (label_number b name) ≡ true
   target_links name =
-      let h = label_within 0 b.items name in
+      let h = label_among 0 b.items name in
       let k = positions_linked w b b.items in
       le-leb (label_number b name) (length (flat_map (resolved_item w b) b.items)) (omega (arith, h, k))
 
@@ -295,26 +281,18 @@ module _ (w : Whole) (b : BodyParts) (owner : Name) where
       (operand_links k m p.0 (empty_left (operand_faults here m) (flat_map (operand_faults here) ms) e))
       (operands_link ks ms p.1 (empty_right (operand_faults here m) (flat_map (operand_faults here) ms) e))
 
-  constant_class : (name class : Name) (o : Option ℕ) → constant_faults here name class o ≡ [] → is_some o ≡ true
-  constant_class name class None e = absurd (cc)
-  constant_class name class (Some c) e = refl
-
-  method_class : (name class : Name) (n : ℕ) (o : Option ℕ) → method_faults here name class n o ≡ [] → is_some o ≡ true
-  method_class name class n None e = absurd (cc)
-  method_class name class n (Some c) e = refl
-
   some_class : (class : Name) → is_some (class_of w class) ≡ true → nat_lt (class_number w class) (length (class_names w)) ≡ true
   some_class class h = class_there w owner class (ap (λ (c : Bool). known c owner class) h)
 
   instruction_links : (op : Op) (ms : List ImmParts) → operands_fit (kinds_of op) ms ≡ true → instruction_faults here op ms ≡ [] → operands_within bounds (kinds_of op) (map (resolved_operand w b) ms) ≡ true
   instruction_links ops.ClsCnsD (imms.Name name ∷ imms.Class class ∷ []) h e =
       let p = and_parts (is_word name) (is_word class && true) h in
-      let c = some_class class (constant_class name class (class_of w class) e) in
+      let c = some_class class (constant_class here name class (class_of w class) e) in
       and_from (is_word name) (nat_lt (class_number w class) (length (class_names w)) && true) p.0 (and_from (nat_lt (class_number w class) (length (class_names w))) true c refl)
   instruction_links ops.FCallClsMethodD (imms.Count n ∷ imms.Name name ∷ imms.Class class ∷ []) h e =
       let p = and_parts (is_index n) (is_word name && (is_word class && true)) h in
       let q = and_parts (is_word name) (is_word class && true) p.1 in
-      let c = some_class class (method_class name class n (class_of w class) e) in
+      let c = some_class class (method_class here name class n (class_of w class) e) in
       and_from (is_index n) (is_word name && (nat_lt (class_number w class) (length (class_names w)) && true)) p.0
       (and_from (is_word name) (nat_lt (class_number w class) (length (class_names w)) && true) q.0 (and_from (nat_lt (class_number w class) (length (class_names w))) true c refl))
   instruction_links ops.FCallFuncD (imms.Count n ∷ imms.Name name ∷ []) h e = h
