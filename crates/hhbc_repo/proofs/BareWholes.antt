@@ -33,6 +33,7 @@ use Rattle.hhbc_repo.specs.declared.parts.PropertyParts.{PropertyParts}
 use Rattle.hhbc_repo.specs.Bare.{bare_position, bare_body, bare_property, bare_class, bare}
 use Rattle.hhbc_repo.specs.Bodies.{built_in_names, built_in_tree}
 use Rattle.hhbc_repo.specs.Bodies as repository
+use Rattle.hhbc_repo.specs.Codes.{labels}
 use Rattle.hhbc_repo.specs.Canonical.{targets, is_named, named_before, label_at, label_called, label_name, label_item, turns, before, canonical_arm, canonical_operand, canonical_code, canonical_position, items_from, canonical_body, canonical_property, canonical_class, canonical}
 use Rattle.hhbc_repo.specs.Fits.{Open, InTry, InCatch, nests}
 use Rattle.hhbc_repo.specs.Linked.{Linked}
