@@ -1,10 +1,11 @@
 -- Wholes whose classes and bodies have the same names and parameters: their checks of types and operands and their numbers of classes
 -- are the same.
-use Rattle.std.proofs.Common.{◌≡◌, ℕ, not, ◌==◌, List, [], ◌∷◌, ◌++◌, flat_map, length, slice_get, Option, Some, None, option_map, is_some, refl, ap, ap₂, ◌∙◌}
+use Rattle.std.proofs.Common.{◌≡◌, ℕ, not, ◌==◌, List, [], ◌∷◌, ◌++◌, map, flat_map, length, slice_get, Option, Some, None, option_map, is_some, codes, refl, ap, ap₂, ◌∙◌}
 use Rattle.type_lattice.specs.Classes.{Tree, chain}
 use Rattle.hhbc_repo.specs.declared.link_fault.LinkFault.{LinkFault}
 use Rattle.hhbc_repo.specs.declared.link_fault.LinkKind.TheVariants as reasons
 use Rattle.hhbc_repo.specs.declared.parts.BodyParts.{BodyParts}
+use Rattle.hhbc_repo.specs.declared.parts.ClassParts.{ClassParts}
 use Rattle.hhbc_repo.specs.declared.parts.PropertyParts.{PropertyParts}
 use Rattle.hhbc_repo.specs.declared.parts.TypeParts.{TypeParts}
 use Rattle.hhbc_repo.specs.LinkFaults.{Name, Whole, Place, names, place_in, class_names, class_of, parent_in, parents, constants, properties, methods, along, with_name, check, known, class_faults, type_faults, stated_faults, parent_faults, constant_faults, method_in, method_faults, function_faults, property_checks}
@@ -15,6 +16,14 @@ parameters b = b.params
 
 abbrev pub place : Whole → BodyParts → Name → Place
 place w b owner = record { whole = w; body = b; owner = owner }
+
+-- bodies that faults call by what comes of their names
+abbrev pub places_called : Whole → (Name → Name) → List BodyParts → List Place
+places_called w called bs = map (λ (b : BodyParts). record { whole = w; body = b; owner = called b.name }) bs
+
+-- what faults call the methods of a class
+abbrev pub of_class : ClassParts → Name → Name
+of_class c name = c.name ++ (codes "::" ++ name)
 
 pub record Alike (w v : Whole) : Type 0 where
   pub names_same : class_names v ≡ class_names w

@@ -1,6 +1,6 @@
 -- Where assertions and stated types pass the checks of linking, the checks of the parts without them are the same; and where no check
 -- fails, they pass.
-use Rattle.std.proofs.Common.{◌≡◌, ℕ, suc, ◌+◌, not, nat_le, List, [], ◌∷◌, ◌++◌, map, flat_map, take, length, Option, Some, None, codes, refl, sym, ap, ap₂, ◌∙◌}
+use Rattle.std.proofs.Common.{◌≡◌, ℕ, suc, ◌+◌, not, nat_le, List, [], ◌∷◌, ◌++◌, map, flat_map, take, length, codes, refl, sym, ap, ap₂, ◌∙◌}
 use Rattle.std.proofs.lemmas.Grind.{flat_map-append}
 use Rattle.std.proofs.lemmas.List.{length-map}
 use Rattle.std.proofs.lemmas.Simd.{map-map}
@@ -19,11 +19,11 @@ use Rattle.hhbc_repo.specs.declared.parts.ImmParts.TheVariants as imms
 use Rattle.hhbc_repo.specs.declared.parts.PositionParts.{PositionParts}
 use Rattle.hhbc_repo.specs.declared.parts.PropertyParts.{PropertyParts}
 use Rattle.hhbc_repo.specs.declared.repo.Const.{Const}
-use Rattle.hhbc_repo.specs.LinkFaults.{Name, Whole, Place, names, as_it_is, dollar, check, within, class_names, class_of, parents, above, ancestors, different, properties, along, differ_from, locals_of, labels_of, positions_of, nesting, label_faults, type_faults, stated_faults, assert_faults, operand_faults, constant_faults, method_faults, function_faults, instruction_faults, code_faults, position_faults, limit_faults, body_faults, function_places, method_places, places, parent_faults, count_faults, repeated_functions, class_checks, property_checks, member_checks, each_class, first_class, faults}
-use Rattle.hhbc_repo.proofs.AlikeWholes.{Alike, place, class_same, class_faults_same, type_faults_same, parent_faults_same, constant_faults_same, method_faults_same, function_faults_same}
+use Rattle.hhbc_repo.specs.LinkFaults.{Name, Whole, Place, names, as_it_is, dollar, check, within, class_of, above, ancestors, different, properties, along, differ_from, locals_of, positions_of, label_faults, stated_faults, assert_faults, operand_faults, constant_faults, method_faults, instruction_faults, code_faults, position_faults, body_faults, function_places, method_places, places, count_faults, repeated_functions, class_checks, property_checks, member_checks, each_class, first_class, faults}
+use Rattle.hhbc_repo.proofs.AlikeWholes.{place, places_called, of_class, class_same, class_faults_same, type_faults_same, parent_faults_same, constant_faults_same, method_faults_same, function_faults_same}
 use Rattle.hhbc_repo.proofs.BareWholes.{bare_position_parts, bare_parts, bare_property_parts, bare_class_parts, bare_whole, labels_bare, positions_bare, nesting_bare, bare_alike}
 use Rattle.hhbc_repo.proofs.BodyCounts.{places_start, methods_next}
-use Rattle.hhbc_repo.proofs.NoFaults.{empty_left, empty_right}
+use Rattle.hhbc_repo.proofs.NoFaults.{empty_left, empty_right, none_fails, faultless}
 
 -- ---- a body
 
@@ -92,23 +92,10 @@ module _ (w : Whole) (b : BodyParts) (owner : Name) where
 
   pub claims_pass : body_faults (place w b owner) ≡ [] → ClaimsPass (place w b owner)
   claims_pass e =
-      let limits = limit_faults here in
-      let locals = differ_from reasons.DuplicateName owner dollar [] (locals_of b) in
-      let labels = differ_from reasons.DuplicateLabel owner as_it_is [] (labels_of b) in
-      let stated = stated_faults w owner b.stated in
-      let each = flat_map (position_faults here) (positions_of b) in
-      let behind = empty_right labels (stated ++ each) (empty_right locals (labels ++ (stated ++ each)) (empty_right limits (locals ++ (labels ++ (stated ++ each))) e)) in
-      record { stated = empty_left stated each behind; asserts = asserts_pass (positions_of b) (empty_right stated each behind) }
+      let f = faultless here e in
+      record { stated = f.stated; asserts = asserts_pass (positions_of b) f.positions }
 
 -- ---- bodies
-
--- bodies that faults call by what comes of their names
-abbrev pub places_called : Whole → (Name → Name) → List BodyParts → List Place
-places_called w called bs = map (λ (b : BodyParts). record { whole = w; body = b; owner = called b.name }) bs
-
--- what faults call the methods of a class
-abbrev pub of_class : ClassParts → Name → Name
-of_class c name = c.name ++ (codes "::" ++ name)
 
 abbrev pub BodiesClaimsPass : Whole → (Name → Name) → List BodyParts → Type 0
 BodiesClaimsPass w called [] = Unit {0}
@@ -235,31 +222,6 @@ faults_bare w c =
     ∙ ap₂ (λ (x y : List LinkFault). x ++ y) (bodies_bare w as_it_is w.functions c.0) (methods_bare w w.classes c.1)
     ∙ sym (flat_map-append body_faults (function_places w) (flat_map (method_places w) w.classes)) in
     λ i. counts_bare w i ++ (functions_bare [] w.functions i ++ (classes_bare w first_class w.classes i ++ (members_bare w first_class w.classes c.1 i ++ bodies i)))
-
--- what the checks of classes and bodies say where none fails
-pub record NoneFails (w : Whole) : Type 0 where
-  pub classes : each_class (class_checks w) first_class w.classes ≡ []
-  pub members : each_class (member_checks w) first_class w.classes ≡ []
-  pub bodies : flat_map body_faults (places_called w as_it_is w.functions) ≡ []
-  pub methods : flat_map body_faults (flat_map (method_places w) w.classes) ≡ []
-
-pub none_fails : (w : Whole) → faults w ≡ [] → NoneFails w
-none_fails w h =
-    let functions = repeated_functions [] w.functions in
-    let classes = each_class (class_checks w) first_class w.classes in
-    let members = each_class (member_checks w) first_class w.classes in
-    let rest = flat_map body_faults (places w) in
-    let bodies = flat_map body_faults (function_places w) in
-    let methods = flat_map body_faults (flat_map (method_places w) w.classes) in
-    let from_classes = empty_right functions (classes ++ (members ++ rest)) (empty_right (count_faults w) (functions ++ (classes ++ (members ++ rest))) h) in
-    let from_members = empty_right classes (members ++ rest) from_classes in
-    let split = sym (flat_map-append body_faults (function_places w) (flat_map (method_places w) w.classes)) ∙ empty_right members rest from_members in
-    record {
-      classes = empty_left classes (members ++ rest) from_classes;
-      members = empty_left members rest from_members;
-      bodies = empty_left bodies methods split;
-      methods = empty_right bodies methods split;
-    }
 
 pub all_claims : (w : Whole) → faults w ≡ [] → AllClaimsPass w
 all_claims w h =

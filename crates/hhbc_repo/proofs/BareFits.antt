@@ -1,5 +1,5 @@
 -- Where assertions and stated types fit, parts fit as they do without them; and in parts that fit, they do.
-use Rattle.std.proofs.Common.{◌≡◌, ℕ, Bool, true, false, ◌&&◌, nat_le, List, [], ◌∷◌, map, flat_map, Option, Some, None, refl, sym, ap, ap₂, ◌∙◌}
+use Rattle.std.proofs.Common.{◌≡◌, Bool, true, false, ◌&&◌, nat_le, List, [], ◌∷◌, map, flat_map, refl, sym, ap, ap₂}
 use Rattle.std.specs.List.{list_all}
 use Rattle.std.proofs.lemmas.Bool.{and_from, and_parts}
 use Rattle.hhas_lex.specs.Spelling.{is_word}
@@ -9,10 +9,11 @@ use Rattle.hhbc_repo.specs.declared.parts.ItemParts.{ItemParts}
 use Rattle.hhbc_repo.specs.declared.parts.ItemParts.TheVariants as items
 use Rattle.hhbc_repo.specs.declared.parts.PositionParts.{PositionParts}
 use Rattle.hhbc_repo.specs.declared.parts.PropertyParts.{PropertyParts}
-use Rattle.hhbc_repo.specs.Fits.{is_label, code_fits, assert_fits, position_fits, item_fits, nests, body_fits, const_fits, initial_fits, property_fits, class_fits, parts_fit}
+use Rattle.hhbc_repo.specs.Fits.{is_label, code_fits, assert_fits, position_fits, item_fits, body_fits, const_fits, initial_fits, property_fits, class_fits, parts_fit}
 use Rattle.hhbc_repo.specs.LinkFaults.{Whole, position_in, positions_of}
 use Rattle.hhbc_repo.specs.TypeFits.{type_fits, where_there}
 use Rattle.hhbc_repo.proofs.BareWholes.{bare_item, bare_parts, bare_property_parts, bare_class_parts, bare_whole, nests_bare}
+use Rattle.hhbc_repo.proofs.PartsThatFit.{body_facts, class_facts}
 
 -- ---- a body
 
@@ -49,29 +50,8 @@ items_claims (items.Try ∷ is) h = items_claims is h
 items_claims (items.Catch ∷ is) h = items_claims is h
 items_claims (items.End ∷ is) h = items_claims is h
 
--- what a body that fits is made of
-pub record BodyFits (b : BodyParts) : Type 0 where
-  pub params : list_all is_word b.params ≡ true
-  pub locals : list_all is_word b.locals ≡ true
-  pub stated : where_there type_fits b.stated ≡ true
-  pub all : list_all item_fits b.items ≡ true
-
-pub body_fitting : (b : BodyParts) → body_fits b ≡ true → BodyFits b
-body_fitting b h =
-    let params = list_all is_word b.params in
-    let locals = list_all is_word b.locals in
-    let few = nat_le b.iters 65535 in
-    let stated = where_there type_fits b.stated in
-    let closed = nests b.items [] false in
-    let all = list_all item_fits b.items in
-    let x = and_parts (is_word b.name) (params && (locals && (few && (stated && (closed && all))))) h in
-    let y = and_parts params (locals && (few && (stated && (closed && all)))) x.1 in
-    let z = and_parts locals (few && (stated && (closed && all))) y.1 in
-    let v = and_parts stated (closed && all) (and_parts few (stated && (closed && all)) z.1).1 in
-    record { params = y.0; locals = z.0; stated = v.0; all = (and_parts closed all v.1).1 }
-
 body_claims : (b : BodyParts) → body_fits b ≡ true → ClaimsFit b
-body_claims b h = let f = body_fitting b h in record { stated = f.stated; asserts = items_claims b.items f.all }
+body_claims b h = let f = body_facts b h in record { stated = f.stated; asserts = items_claims b.items f.items }
 
 abbrev pub BodiesClaimsFit : List BodyParts → Type 0
 BodiesClaimsFit [] = Unit {0}
@@ -104,23 +84,6 @@ properties_claims (p ∷ ps) h =
     let b = and_parts (is_word p.name) (initial_fits p.initial && stated) a.0 in
     and_from stated (properties_fit ps) (and_parts (initial_fits p.initial) stated b.1).1 (properties_claims ps a.1)
 
--- what a class that fits is made of
-pub record ClassFits (c : ClassParts) : Type 0 where
-  pub name : is_word c.name ≡ true
-  pub props : list_all property_fits c.props ≡ true
-  pub methods : list_all body_fits c.methods ≡ true
-
-pub class_fitting : (c : ClassParts) → class_fits c ≡ true → ClassFits c
-class_fitting c h =
-    let parent = where_there is_word c.parent in
-    let consts = list_all const_fits c.consts in
-    let props = list_all property_fits c.props in
-    let methods = list_all body_fits c.methods in
-    let x = and_parts (is_word c.name) (parent && (consts && (props && methods))) h in
-    let z = and_parts consts (props && methods) (and_parts parent (consts && (props && methods)) x.1).1 in
-    let u = and_parts props methods z.1 in
-    record { name = x.0; props = u.0; methods = u.1 }
-
 abbrev pub ClassesClaimsFit : List ClassParts → Type 0
 ClassesClaimsFit [] = Unit {0}
 ClassesClaimsFit (c ∷ cs) = (properties_fit c.props ≡ true) × BodiesClaimsFit c.methods × ClassesClaimsFit cs
@@ -136,7 +99,7 @@ classes_claims : (cs : List ClassParts) → list_all class_fits cs ≡ true → 
 classes_claims [] h = tt
 classes_claims (c ∷ cs) h =
     let p = and_parts (class_fits c) (list_all class_fits cs) h in
-    let f = class_fitting c p.0 in
+    let f = class_facts c p.0 in
     (properties_claims c.props f.props, bodies_claims c.methods f.methods, classes_claims cs p.1)
 
 -- ---- all of it

@@ -1,96 +1,30 @@
 -- Bodies that fit and pass the checks of linking come back: their canonical parts fit, link to the same bodies and pass the checks.
-use Rattle.std.proofs.Common.{◌≡◌, ◌≤◌, ℕ, true, false, ◌&&◌, nat_le, List, [], ◌∷◌, ◌++◌, map, flat_map, length, option_map, codes, refl, sym, ap, ap₂, subst, ◌∙◌, arith}
+use Rattle.std.proofs.Common.{◌≡◌, ◌≤◌, ℕ, true, List, [], ◌∷◌, ◌++◌, map, flat_map, length, option_map, codes, refl, sym, ap, ap₂, subst, ◌∙◌, arith}
 use Rattle.std.specs.List.{list_all}
-use Rattle.std.proofs.lemmas.Bool.{and_from, and_parts}
+use Rattle.std.proofs.lemmas.Bool.{and_parts}
 use Rattle.std.proofs.lemmas.List.{length-map}
 use Rattle.std.proofs.Math.Seq.{take-append_seam, drop-append_seam}
-use Rattle.hhas_lex.specs.Spelling.{is_word}
 use Rattle.hhbc_repo.specs.declared.body.Position.{Position}
 use Rattle.hhbc_repo.specs.declared.link_fault.LinkKind.TheVariants as reasons
 use Rattle.hhbc_repo.specs.declared.parts.BodyParts.{BodyParts}
 use Rattle.hhbc_repo.specs.declared.parts.PositionParts.{PositionParts}
 use Rattle.hhbc_repo.specs.declared.parts.TypeParts.{TypeParts}
 use Rattle.hhbc_repo.specs.Canonical.{position_targets, is_named, canonical_position, canonical_body}
-use Rattle.hhbc_repo.specs.Fits.{nests, item_fits, position_fits, body_fits}
+use Rattle.hhbc_repo.specs.Fits.{item_fits, position_fits, body_fits}
 use Rattle.hhbc_repo.specs.LinkFaults.{Name, Whole, Place, as_it_is, dollar, class_names, within, differ_from, locals_of, labels_of, position_in, positions_of, stated_faults, position_faults, limit_faults, body_faults}
 use Rattle.hhbc_repo.proofs.Relabelled.{new_label, relabelled_position}
 use Rattle.hhbc_repo.specs.Resolved.{label_number, resolved_position, resolved_item, resolved_body}
-use Rattle.hhbc_repo.specs.TypeFits.{type_fits, where_there}
 use Rattle.hhbc_repo.proofs.AlikeWholes.{place, type_same, stated_faults_same}
 use Rattle.hhbc_repo.proofs.CanonicalItems.{positions_fit, linked_positions, label_among, items_fit, items_labelled, targets_named}
 use Rattle.hhbc_repo.proofs.CodesBack.{position_back}
 use Rattle.hhbc_repo.proofs.ItemsBack.{nests_back, nesting_back, regions_back}
 use Rattle.hhbc_repo.proofs.LabelsBack.{label_back, label_fits, label_listed, labels_differ, positions_back}
 use Rattle.hhbc_repo.proofs.TypesBack.{stated_back}
-use Rattle.hhbc_repo.proofs.NoFaults.{empty_left, empty_right}
+use Rattle.hhbc_repo.proofs.NoFaults.{empty_left, empty_right, Faultless, faultless}
+use Rattle.hhbc_repo.proofs.PartsThatFit.{BodyFits, body_facts, body_from}
 use Rattle.hhbc_repo.proofs.RelabelledPositions.{Renamed, none_both, positions_fit_still, positions_faultless, positions_resolve}
 use Rattle.hhbc_repo.proofs.RelaidWholes.{relaid_items, relaid_body, relaid, relaid_alike}
 use Rattle.hhbc_repo.proofs.WithinLimits.{limits_hold}
-
--- ---- what a body that fits and passes is made of
-
-record Fitting (b : BodyParts) : Type 0 where
-  name : is_word b.name ≡ true
-  params : list_all is_word b.params ≡ true
-  locals : list_all is_word b.locals ≡ true
-  few : nat_le b.iters 65535 ≡ true
-  stated : where_there type_fits b.stated ≡ true
-  closed : nests b.items [] false ≡ true
-  all : list_all item_fits b.items ≡ true
-
-fitting : (b : BodyParts) → body_fits b ≡ true → Fitting b
-fitting b h =
-    let params = list_all is_word b.params in
-    let locals = list_all is_word b.locals in
-    let few = nat_le b.iters 65535 in
-    let stated = where_there type_fits b.stated in
-    let closed = nests b.items [] false in
-    let all = list_all item_fits b.items in
-    let x = and_parts (is_word b.name) (params && (locals && (few && (stated && (closed && all))))) h in
-    let y = and_parts params (locals && (few && (stated && (closed && all)))) x.1 in
-    let z = and_parts locals (few && (stated && (closed && all))) y.1 in
-    let u = and_parts few (stated && (closed && all)) z.1 in
-    let v = and_parts stated (closed && all) u.1 in
-    let q = and_parts closed all v.1 in
-    record { name = x.0; params = y.0; locals = z.0; few = u.0; stated = v.0; closed = q.0; all = q.1 }
-
-fits_with : (b : BodyParts) → Fitting b → body_fits b ≡ true
-fits_with b f =
-    let params = list_all is_word b.params in
-    let locals = list_all is_word b.locals in
-    let few = nat_le b.iters 65535 in
-    let stated = where_there type_fits b.stated in
-    let closed = nests b.items [] false in
-    let all = list_all item_fits b.items in
-    and_from (is_word b.name) (params && (locals && (few && (stated && (closed && all))))) f.name
-    (and_from params (locals && (few && (stated && (closed && all)))) f.params
-    (and_from locals (few && (stated && (closed && all))) f.locals
-    (and_from few (stated && (closed && all)) f.few (and_from stated (closed && all) f.stated (and_from closed all f.closed f.all)))))
-
-record Faultless (p : Place) : Type 0 where
-  limits : limit_faults p ≡ []
-  locals : differ_from reasons.DuplicateName p.owner dollar [] (locals_of p.body) ≡ []
-  labels : differ_from reasons.DuplicateLabel p.owner as_it_is [] (labels_of p.body) ≡ []
-  stated : stated_faults p.whole p.owner p.body.stated ≡ []
-  positions : flat_map (position_faults p) (positions_of p.body) ≡ []
-
-faultless : (p : Place) → body_faults p ≡ [] → Faultless p
-faultless p e =
-    let limits = limit_faults p in
-    let locals = differ_from reasons.DuplicateName p.owner dollar [] (locals_of p.body) in
-    let labels = differ_from reasons.DuplicateLabel p.owner as_it_is [] (labels_of p.body) in
-    let stated = stated_faults p.whole p.owner p.body.stated in
-    let each = flat_map (position_faults p) (positions_of p.body) in
-    let from_locals = empty_right limits (locals ++ (labels ++ (stated ++ each))) e in
-    let from_labels = empty_right locals (labels ++ (stated ++ each)) from_locals in
-    let from_stated = empty_right labels (stated ++ each) from_labels in
-    record {
-      limits = empty_left limits (locals ++ (labels ++ (stated ++ each))) e;
-      locals = empty_left locals (labels ++ (stated ++ each)) from_locals;
-      labels = empty_left labels (stated ++ each) from_labels;
-      stated = empty_left stated each from_stated;
-      positions = empty_right stated each from_stated;
-    }
 
 faultless_with : (p : Place) → Faultless p → body_faults p ≡ []
 faultless_with p f =
@@ -126,11 +60,11 @@ module _ (w : Whole) (b : BodyParts) (owner : Name) where
       (position_back w b owner q p.0 (empty_left (position_faults (place w b owner) q) later e))
       (positions_relabelled qs p.1 (empty_right (position_faults (place w b owner) q) later e))
 
-  positions_relaid : Fitting b → Faultless (place w b owner) → flat_map position_in (relaid_items w b) ≡ map (relabelled_position new) (positions_of b)
+  positions_relaid : BodyFits b → Faultless (place w b owner) → flat_map position_in (relaid_items w b) ≡ map (relabelled_position new) (positions_of b)
   positions_relaid f e =
       positions_back all_names (resolved_body w b)
       ∙ ap (map (canonical_position all_names (resolved_body w b))) (linked_positions w b b.items)
-      ∙ positions_relabelled (positions_of b) (positions_fit b.items f.all) e.positions
+      ∙ positions_relabelled (positions_of b) (positions_fit b.items f.items) e.positions
 
   few_positions : Faultless (place w b owner) → length (resolved_body w b).positions ≤ 65535
   few_positions e =
@@ -154,28 +88,28 @@ module _ (w : Whole) (b : BodyParts) (owner : Name) where
   meant : list_all (is_named (resolved_body w b).positions) (flat_map position_targets (map (resolved_position w b) (positions_of b))) ≡ true
   meant = subst (λ (ps : List Position). list_all (is_named (resolved_body w b).positions) (flat_map position_targets ps) ≡ true) (linked_positions w b b.items) (targets_named (resolved_body w b).positions)
 
-  items_fit_back : Fitting b → Faultless (place w b owner) → list_all item_fits (relaid_items w b) ≡ true
+  items_fit_back : BodyFits b → Faultless (place w b owner) → list_all item_fits (relaid_items w b) ≡ true
   items_fit_back f e =
       items_fit (relaid_items w b)
       (ap (list_all position_fits) (positions_relaid f e)
-      ∙ positions_fit_still w (relaid w) (relaid_alike w) b (relaid_items w b) owner new (is_named (resolved_body w b).positions) (renamed e) (positions_of b) meant (positions_fit b.items f.all))
+      ∙ positions_fit_still w (relaid w) (relaid_alike w) b (relaid_items w b) owner new (is_named (resolved_body w b).positions) (renamed e) (positions_of b) meant (positions_fit b.items f.items))
       (items_labelled all_names (resolved_body w b) (λ p. label_fits (resolved_body w b) p (few_positions e)) 0 (resolved_body w b).positions)
 
-  linked_back : Fitting b → Faultless (place w b owner) → flat_map (resolved_item (relaid w) (relaid_body w b)) (relaid_items w b) ≡ flat_map (resolved_item w b) b.items
+  linked_back : BodyFits b → Faultless (place w b owner) → flat_map (resolved_item (relaid w) (relaid_body w b)) (relaid_items w b) ≡ flat_map (resolved_item w b) b.items
   linked_back f e =
       linked_positions (relaid w) (relaid_body w b) (relaid_items w b)
       ∙ ap (map (resolved_position (relaid w) (relaid_body w b))) (positions_relaid f e)
       ∙ positions_resolve w (relaid w) (relaid_alike w) b (relaid_items w b) owner new (is_named (resolved_body w b).positions) (renamed e) (positions_of b) meant
       ∙ sym (linked_positions w b b.items)
 
-  limits_back : Fitting b → Faultless (place w b owner) → limit_faults (place (relaid w) (relaid_body w b) owner) ≡ limit_faults (place w b owner)
+  limits_back : BodyFits b → Faultless (place w b owner) → limit_faults (place (relaid w) (relaid_body w b) owner) ≡ limit_faults (place w b owner)
   limits_back f e =
       let count : length (flat_map position_in (relaid_items w b)) ≡ length (positions_of b) = ap length (positions_relaid f e) ∙ length-map (positions_of b) (relabelled_position new) in
       ap₂ (λ (n deep : ℕ). within 255 (length (locals_of b)) owner (codes "locals")
       ++ (within 32 b.iters owner (codes "iterators") ++ (within 65535 n owner (codes "positions") ++ within 64 deep owner (codes "nesting"))))
       count (nesting_back all_names w b f.closed)
 
-  passes_back : Fitting b → Faultless (place w b owner) → Faultless (place (relaid w) (relaid_body w b) owner)
+  passes_back : BodyFits b → Faultless (place w b owner) → Faultless (place (relaid w) (relaid_body w b) owner)
   passes_back f e = record {
     limits = limits_back f e ∙ e.limits;
     locals = e.locals;
@@ -186,7 +120,7 @@ module _ (w : Whole) (b : BodyParts) (owner : Name) where
         ∙ positions_faultless w (relaid w) (relaid_alike w) b (relaid_items w b) owner new (is_named (resolved_body w b).positions) (renamed e) (positions_of b) meant e.positions;
   }
 
-  back_from : Fitting b → Faultless (place w b owner) → BodyBack w b owner
+  back_from : BodyFits b → Faultless (place w b owner) → BodyBack w b owner
   back_from f e = record {
     same = λ i. record {
       name = b.name;
@@ -196,14 +130,14 @@ module _ (w : Whole) (b : BodyParts) (owner : Name) where
       stated = stated_back w owner b.stated f.stated e.stated i;
       items = relaid_items w b;
     };
-    fits = fits_with (relaid_body w b) (record {
+    fits = body_from (relaid_body w b) (record {
       name = f.name;
       params = f.params;
       locals = f.locals;
       few = f.few;
       stated = f.stated;
       closed = nests_back all_names w b f.closed;
-      all = items_fit_back f e;
+      items = items_fit_back f e;
     });
     resolves = λ i. record {
       name = b.name;
@@ -218,4 +152,4 @@ module _ (w : Whole) (b : BodyParts) (owner : Name) where
   }
 
   pub body_back : body_fits b ≡ true → body_faults (place w b owner) ≡ [] → BodyBack w b owner
-  body_back h e = back_from (fitting b h) (faultless (place w b owner) e)
+  body_back h e = back_from (body_facts b h) (faultless (place w b owner) e)

@@ -1,5 +1,5 @@
 -- Bodies that fit are spelled by their pieces, and these are told apart.
-use Rattle.std.proofs.Common.{◌≡◌, ℕ, zero, suc, true, false, not, ◌&&◌, ◌^◌, nat_le, List, [], ◌∷◌, ◌++◌, Option, Some, None, codes, pos, refl, sym, ap, subst, ◌∙◌, append_assoc, arith, inl, inr}
+use Rattle.std.proofs.Common.{◌≡◌, ℕ, zero, suc, true, not, ◌^◌, nat_le, List, [], ◌∷◌, ◌++◌, Option, Some, None, codes, pos, refl, sym, ap, subst, ◌∙◌, append_assoc, arith, inl, inr}
 use Rattle.std.specs.List.{list_all, flat_map}
 use Rattle.std.proofs.lemmas.Bool.{and_parts, le-leb, leb-true}
 use Rattle.hhas_lex.specs.Shape.{is_int64}
@@ -16,13 +16,14 @@ use Rattle.hhbc_repo.specs.TypeSyntax.{AType}
 use Rattle.hhbc_repo.specs.CodeSyntax.{ALocal, is_reserved}
 use Rattle.hhbc_repo.specs.BodySyntax.{Params, Declared, Iterators, ABody}
 use Rattle.hhbc_repo.specs.TypeFits.{type_fits, where_there}
-use Rattle.hhbc_repo.specs.Fits.{is_label, position_fits, item_fits, nests, body_fits}
+use Rattle.hhbc_repo.specs.Fits.{is_label, position_fits, item_fits, body_fits}
 use Rattle.hhbc_repo.specs.CanonicalText.{line, spaced, tight, outer, type_pieces, position_pieces, item_pieces, more_local, params_pieces, stated_pieces, locals_pieces, iters_pieces, body_pieces}
 use Rattle.hhbc_repo.proofs.Clearing.{tokens_in}
 use Rattle.hhbc_repo.proofs.ItemsSpelled.{items_spelled}
 use Rattle.hhbc_repo.proofs.CodesClear.{position_clear}
 use Rattle.hhbc_repo.proofs.CodesSpelled.{a_type}
 use Rattle.hhbc_repo.proofs.ClearTogether.{IsClear, none_clear, both_clear, each_clear, line_clear, spaced_clear, tight_clear}
+use Rattle.hhbc_repo.proofs.PartsThatFit.{body_facts}
 use Rattle.hhbc_repo.proofs.PiecesSpelled.{pieces_both, pieces_ended}
 use Rattle.hhbc_repo.proofs.TypesClear.{type_clear}
 
@@ -56,30 +57,6 @@ iters_spelled depth (suc n) h =
 pub stated_spelled : (word : Name) (o : Option TypeParts) → where_there type_fits o ≡ true → Perhaps (Behind (Directive word ∷ []) AType) (tokens_in (stated_pieces word o)) o
 stated_spelled word None h = refl
 stated_spelled word (Some t) h = record { rest = tokens_in (type_pieces t); word = a_type t h; tokens = refl }
-
--- what a body of which each part fits has
-pub record BodyFits (b : BodyParts) : Type 0 where
-  pub name : is_word b.name ≡ true
-  pub params : list_all is_word b.params ≡ true
-  pub locals : list_all is_word b.locals ≡ true
-  pub iters : nat_le b.iters 65535 ≡ true
-  pub stated : where_there type_fits b.stated ≡ true
-  pub nested : nests b.items [] false ≡ true
-  pub fit : list_all item_fits b.items ≡ true
-
-pub body_facts : (b : BodyParts) → body_fits b ≡ true → BodyFits b
-body_facts b h =
-    let its = nests b.items [] false && list_all item_fits b.items in
-    let stated = where_there type_fits b.stated && its in
-    let iters = nat_le b.iters 65535 && stated in
-    let locals = list_all is_word b.locals && iters in
-    let x = and_parts (is_word b.name) (list_all is_word b.params && locals) h in
-    let y = and_parts (list_all is_word b.params) locals x.1 in
-    let z = and_parts (list_all is_word b.locals) iters y.1 in
-    let u = and_parts (nat_le b.iters 65535) stated z.1 in
-    let v = and_parts (where_there type_fits b.stated) its u.1 in
-    let w = and_parts (nests b.items [] false) (list_all item_fits b.items) v.1 in
-    record { name = x.0; params = y.0; locals = z.0; iters = u.0; stated = v.0; nested = w.0; fit = w.1 }
 
 -- the pieces of a body behind its word and its name, one list after the other
 abbrev close_pieces : ℕ → BodyParts → List Spaced
@@ -119,8 +96,8 @@ named_spelled depth b h =
           (record {
             rest = tokens_in (within_pieces depth b);
             word = pieces_both _ _ (locals_pieces (suc depth) b.locals) (iters_pieces (suc depth) b.iters ++ close_pieces depth b) _ (declared_spelled (suc depth) b.locals)
-                (pieces_both _ _ (iters_pieces (suc depth) b.iters) (close_pieces depth b) _ (iters_spelled (suc depth) b.iters f.iters)
-                (pieces_ended _ (item_pieces (suc depth) b.items) (line depth (Mark 125) ∷ []) b.items (items_spelled (suc depth) b.items f.nested f.fit)));
+                (pieces_both _ _ (iters_pieces (suc depth) b.iters) (close_pieces depth b) _ (iters_spelled (suc depth) b.iters f.few)
+                (pieces_ended _ (item_pieces (suc depth) b.items) (line depth (Mark 125) ∷ []) b.items (items_spelled (suc depth) b.items f.closed f.items)));
             tokens = refl;
           }));
       tokens = refl;
@@ -193,5 +170,5 @@ body_clear depth word p b h =
     (both_clear (stated_pieces (codes "returns") b.stated) (spaced (Mark 123) ∷ within_pieces depth b) (stated_clear (codes "returns") refl b.stated f.stated)
     (spaced_clear (Mark 123) (within_pieces depth b) refl
     (both_clear (locals_pieces (suc depth) b.locals) (iters_pieces (suc depth) b.iters ++ close_pieces depth b) (locals_clear (suc depth) b.locals f.locals)
-    (both_clear (iters_pieces (suc depth) b.iters) (close_pieces depth b) (iters_clear (suc depth) b.iters f.iters)
-    (both_clear (item_pieces (suc depth) b.items) (line depth (Mark 125) ∷ []) (items_clear (suc depth) b.items f.fit) (line_clear depth (Mark 125) [] refl none_clear)))))))))
+    (both_clear (iters_pieces (suc depth) b.iters) (close_pieces depth b) (iters_clear (suc depth) b.iters f.few)
+    (both_clear (item_pieces (suc depth) b.items) (line depth (Mark 125) ∷ []) (items_clear (suc depth) b.items f.items) (line_clear depth (Mark 125) [] refl none_clear)))))))))

@@ -3,7 +3,7 @@
 use Rattle.std.proofs.Common.{◌≡◌, ◌≤◌, ℕ, zero, suc, ◌+◌, Bool, true, false, ◌&&◌, ◌||◌, nat_le, nat_eq, List, [], ◌∷◌, ◌++◌, map, flat_map, length, Option, Some, None, option_map, refl, ap, subst, arith, append_assoc, replicate}
 use Rattle.std.specs.Prelude.{if◌then◌else◌}
 use Rattle.std.specs.List.{list_all, list_any}
-use Rattle.std.proofs.lemmas.Bool.{and_from, and_parts, eq-eqb, leb-true}
+use Rattle.std.proofs.lemmas.Bool.{and_from, and_parts, or_right, eq-eqb, leb-true}
 use Rattle.type_lattice.specs.TypeText.{named}
 use Rattle.hhbc_repo.specs.declared.body.Body.{Body}
 use Rattle.hhbc_repo.specs.declared.body.Position.{Position}
@@ -102,13 +102,9 @@ module _ (all : List Name) (c : Body) (fits : (p : ℕ) → p ≤ length c.posit
 
 -- ---- targets
 
-or_last : (a b : Bool) → b ≡ true → a || b ≡ true
-or_last true b h = refl
-or_last false b h = h
-
 met : (front : List ℕ) (p : ℕ) (ps : List ℕ) → list_any (nat_eq p) (front ++ p ∷ ps) ≡ true
 met [] p ps = ap (λ (t : Bool). t || list_any (nat_eq p) ps) (eq-eqb p p refl)
-met (x ∷ front) p ps = or_last (nat_eq p x) (list_any (nat_eq p) (front ++ p ∷ ps)) (met front p ps)
+met (x ∷ front) p ps = or_right (nat_eq p x) (list_any (nat_eq p) (front ++ p ∷ ps)) (met front p ps)
 
 all_met : (front ps : List ℕ) → list_all (λ p. list_any (nat_eq p) (front ++ ps)) ps ≡ true
 all_met front [] = refl

@@ -1,5 +1,5 @@
 -- A repository that some text spells still has a spelling with other claims, where these keep to their ranges.
-use Rattle.std.proofs.Common.{◌≡◌, ℕ, Bool, true, not, ◌&&◌, nat_lt, List, [], ◌∷◌, ◌++◌, map, flat_map, take, drop, length, Option, Some, None, option_map, refl, sym, ap, ap₂, subst, ◌∙◌}
+use Rattle.std.proofs.Common.{◌≡◌, ℕ, Bool, true, List, [], ◌∷◌, ◌++◌, map, flat_map, take, drop, length, Option, Some, None, option_map, refl, sym, ap, ap₂, subst, ◌∙◌}
 use Rattle.std.specs.List.{list_all}
 use Rattle.std.proofs.lemmas.Bool.{and_from, and_parts}
 use Rattle.std.proofs.lemmas.Grind.{flat_map-append}
@@ -7,60 +7,47 @@ use Rattle.std.proofs.lemmas.List.{take-append-drop}
 use Rattle.std.proofs.lemmas.Simd.{map-map}
 use Rattle.hhas_lex.specs.Spelling.{is_word}
 use Rattle.type_lattice.specs.declared.types.HType.{HType}
-use Rattle.type_lattice.specs.TypeText.{class_name}
 use Rattle.hhbc_repo.specs.declared.body.Assert.{Assert}
 use Rattle.hhbc_repo.specs.declared.body.Assert.TheVariants as asserts
 use Rattle.hhbc_repo.specs.declared.body.Body.{Body}
 use Rattle.hhbc_repo.specs.declared.body.Position.{Position}
-use Rattle.hhbc_repo.specs.declared.code.Code.{Code}
 use Rattle.hhbc_repo.specs.declared.link_fault.LinkFault.{LinkFault}
 use Rattle.hhbc_repo.specs.declared.link_fault.LinkKind.TheVariants as reasons
-use Rattle.hhbc_repo.specs.declared.parts.AssertParts.{AssertParts}
 use Rattle.hhbc_repo.specs.declared.parts.BodyParts.{BodyParts}
 use Rattle.hhbc_repo.specs.declared.parts.ClassParts.{ClassParts}
-use Rattle.hhbc_repo.specs.declared.parts.PositionParts.{PositionParts}
-use Rattle.hhbc_repo.specs.declared.parts.PropertyParts.{PropertyParts}
 use Rattle.hhbc_repo.specs.declared.parts.TypeParts.{TypeParts}
 use Rattle.hhbc_repo.specs.declared.repo.Class.{Class}
 use Rattle.hhbc_repo.specs.declared.repo.Property.{Property}
-use Rattle.hhbc_repo.specs.Bare.{bare_position, bare_body, bare_property, bare_class, bare}
+use Rattle.hhbc_repo.specs.Bare.{bare_position, bare_body, bare_class, bare}
 use Rattle.hhbc_repo.specs.Bodies.{built_in_names}
 use Rattle.hhbc_repo.specs.Bodies as repository
 use Rattle.hhbc_repo.specs.Canonical.{local_name, canonical_assert, canonical_position, canonical_body, canonical_property, canonical_class, canonical}
 use Rattle.hhbc_repo.specs.Claims.{position_claims_within, body_claims_within, property_claims_within, class_claims_within, claims_within}
 use Rattle.hhbc_repo.specs.Fits.{is_index, assert_fits, body_fits, class_fits, parts_fit}
 use Rattle.hhbc_repo.specs.Linked.{Linked}
-use Rattle.hhbc_repo.specs.LinkFaults.{Name, Whole, Place, names, place_in, as_it_is, dollar, known, class_names, locals_of, labels_of, position_in, positions_of, differ_from, local_faults, type_faults, stated_faults, assert_faults, position_faults, limit_faults, body_faults, method_places, faults}
+use Rattle.hhbc_repo.specs.LinkFaults.{Name, Whole, Place, place_in, as_it_is, dollar, known, class_names, locals_of, positions_of, local_faults, type_faults, stated_faults, assert_faults, body_faults, method_places}
 use Rattle.hhbc_repo.specs.Names.{distinct}
-use Rattle.hhbc_repo.specs.Resolved.{or_zero, local_number, resolved_type, resolved_assert, resolved_position, resolved_item, resolved_body, resolved_property, resolved_class, resolved, LinksTo}
+use Rattle.hhbc_repo.specs.Resolved.{or_zero, local_number, resolved_type, resolved_assert, resolved_position, resolved_body, resolved_property, resolved_class, resolved, LinksTo}
 use Rattle.hhbc_repo.specs.Spelled.{HasSpelling}
 use Rattle.hhbc_repo.specs.TypeFits.{type_fits, where_there}
 use Rattle.hhbc_repo.specs.Within.{Bounds, bounds_of, local_within, type_within, assert_within}
 use Rattle.hhbc_repo.specs.WrittenTypes.{canonical_type}
-use Rattle.hhbc_repo.proofs.AlikeWholes.{Alike, place}
-use Rattle.hhbc_repo.proofs.BareFaults.{asserts_faults, ClaimsPass, places_called, of_class, BodiesClaimsPass, properties_faults, ClassesClaimsPass, AllClaimsPass, faults_bare, NoneFails, none_fails, all_claims}
-use Rattle.hhbc_repo.proofs.BareFits.{asserts_fit, ClaimsFit, BodyFits, body_fitting, BodiesClaimsFit, properties_fit, ClassFits, class_fitting, ClassesClaimsFit, AllClaimsFit, fits_bare, all_claims_fit}
+use Rattle.hhbc_repo.proofs.AlikeWholes.{place, places_called, of_class}
+use Rattle.hhbc_repo.proofs.BareFaults.{asserts_faults, ClaimsPass, BodiesClaimsPass, properties_faults, ClassesClaimsPass, faults_bare, all_claims}
+use Rattle.hhbc_repo.proofs.BareFits.{asserts_fit, ClaimsFit, BodiesClaimsFit, properties_fit, ClassesClaimsFit, fits_bare, all_claims_fit}
 use Rattle.hhbc_repo.proofs.BareWholes.{bare_parts, bare_class_parts, bare_whole, bare_alike, bare_links, bare_canonical}
 use Rattle.hhbc_repo.proofs.CanonicalItems.{linked_positions}
+use Rattle.hhbc_repo.proofs.Elements.{same_first, same_rest}
 use Rattle.hhbc_repo.proofs.LabelsBack.{positions_back}
-use Rattle.hhbc_repo.proofs.NoFaults.{empty_left, empty_right, differ, classes_differ}
+use Rattle.hhbc_repo.proofs.NoFaults.{empty_left, empty_right, differ, classes_differ, none_fails, faultless}
 use Rattle.hhbc_repo.proofs.NumbersPut.{there_names}
+use Rattle.hhbc_repo.proofs.PartsThatFit.{body_facts, class_facts}
 use Rattle.hhbc_repo.proofs.SpelledTypes.{all_both}
 use Rattle.hhbc_repo.proofs.TypesForth.{word_at, place_of_number, type_canonical_fits, type_forth}
 
-same_first : {A : Type 0} (x y : A) (xs ys : List A) → x ∷ xs ≡ y ∷ ys → x ≡ y
-same_first x y xs ys e = cc
-
-same_rest : {A : Type 0} (x y : A) (xs ys : List A) → x ∷ xs ≡ y ∷ ys → xs ≡ ys
-same_rest x y xs ys e = cc
-
 -- the locals of a body that passes have different names
 locals_differ : (p : Place) → body_faults p ≡ [] → distinct (locals_of p.body) ≡ true
-locals_differ p e =
-    let locals = differ_from reasons.DuplicateName p.owner dollar [] (locals_of p.body) in
-    let labels = differ_from reasons.DuplicateLabel p.owner as_it_is [] (labels_of p.body) in
-    let rest = labels ++ (stated_faults p.whole p.owner p.body.stated ++ flat_map (position_faults p) (positions_of p.body)) in
-    differ reasons.DuplicateName p.owner dollar [] (locals_of p.body) (empty_left locals rest (empty_right (limit_faults p) (locals ++ rest) e))
+locals_differ p e = differ reasons.DuplicateName p.owner dollar [] (locals_of p.body) (faultless p e).locals
 
 -- what is kept of a body, of bodies and of classes: their claims fit and pass, and they link back
 
@@ -186,7 +173,7 @@ module _ (w : Whole) (all : List Name) (called : class_names w ≡ all) (words :
 
   words_of_locals : (b : Body) → body_fits (bare_parts (canonical_body all b)) ≡ true → list_all is_word b.locals ≡ true
   words_of_locals b h =
-      let f = body_fitting (bare_parts (canonical_body all b)) h in
+      let f = body_facts (bare_parts (canonical_body all b)) h in
       subst (λ (l : List Name). list_all is_word l ≡ true) (take-append-drop b.params b.locals) (all_both is_word (take b.params b.locals) (drop b.params b.locals) f.params f.locals)
 
   bodies_kept : (owned : Name → Name) (bs : List Body) → list_all body_fits (map bare_parts (map (canonical_body all) bs)) ≡ true
@@ -239,7 +226,7 @@ module _ (w : Whole) (all : List Name) (called : class_names w ≡ all) (words :
       let l = and_parts (list_all (property_claims_within (length all)) c.props) (list_all (body_claims_within (length all)) c.methods) k.0 in
       let first = same_first (bare_class c) (bare_class now) (map bare_class cs) (map bare_class later) e in
       let props = properties_kept c.name c.props l.0 in
-      let methods = bodies_kept (of_class parts) c.methods (class_fitting bare_now g.0).methods (empty_left checks others split) (ap (λ (x : Class). x.methods) first) l.1 in
+      let methods = bodies_kept (of_class parts) c.methods (class_facts bare_now g.0).methods (empty_left checks others split) (ap (λ (x : Class). x.methods) first) l.1 in
       let more = classes_kept cs g.1 (empty_right checks others split) (same_rest (bare_class c) (bare_class now) (map bare_class cs) (map bare_class later) e) k.1 in
       let parent = ap (λ (x : Class). x.parent) first in
       record {
@@ -258,7 +245,7 @@ words_of_classes all [] h = refl
 words_of_classes all (c ∷ cs) h =
     let parts = bare_class_parts (canonical_class all c) in
     let p = and_parts (class_fits parts) (list_all class_fits (map bare_class_parts (map (canonical_class all) cs))) h in
-    and_from (is_word c.name) (list_all is_word (map (λ (c : Class). c.name) cs)) (class_fitting parts p.0).name (words_of_classes all cs p.1)
+    and_from (is_word c.name) (list_all is_word (map (λ (c : Class). c.name) cs)) (class_facts parts p.0).name (words_of_classes all cs p.1)
 
 -- without its claims it has a spelling too
 pub bare_spelled : (r : Linked) → HasSpelling r → HasSpelling (bare r)

@@ -1,10 +1,8 @@
 -- Bodies and classes that fit and pass the checks of linking come back, each with the others of its list.
-use Rattle.std.proofs.Common.{◌≡◌, ℕ, suc, true, not, ◌&&◌, nat_le, List, [], ◌∷◌, ◌++◌, map, flat_map, take, get_or, Option, Some, None, option_map, is_some, codes, refl, sym, ap, ap₂, ◌∙◌}
+use Rattle.std.proofs.Common.{◌≡◌, ℕ, suc, true, not, ◌&&◌, nat_le, List, [], ◌∷◌, ◌++◌, map, flat_map, take, Option, Some, None, option_map, is_some, refl, sym, ap, ap₂, ◌∙◌}
 use Rattle.std.specs.List.{list_all}
 use Rattle.std.proofs.lemmas.Bool.{and_from, and_parts}
 use Rattle.std.proofs.lemmas.Grind.{flat_map-append}
-use Rattle.std.proofs.lemmas.List.Quantifiers.{position-Some}
-use Rattle.std.proofs.lemmas.Option.{slice_get-get_or}
 use Rattle.hhas_lex.specs.Spelling.{is_word}
 use Rattle.type_lattice.specs.Classes.{chain, has}
 use Rattle.type_lattice.specs.TypeText.{named, class_name}
@@ -15,52 +13,43 @@ use Rattle.hhbc_repo.specs.declared.parts.PropertyParts.{PropertyParts}
 use Rattle.hhbc_repo.specs.declared.parts.TypeParts.{TypeParts}
 use Rattle.hhbc_repo.specs.declared.repo.Const.{Const}
 use Rattle.hhbc_repo.specs.Canonical.{canonical_body, canonical_property, canonical_class}
-use Rattle.hhbc_repo.specs.Fits.{body_fits, const_fits, property_fits, initial_fits, class_fits}
-use Rattle.hhbc_repo.specs.LinkFaults.{Name, Whole, Place, is_name, names, place_in, as_it_is, check, class_names, class_of, parent_in, parents, ancestors, different, properties, along, differ_from, stated_faults, parent_faults, body_faults, method_places, class_checks, property_checks, member_checks, each_class}
+use Rattle.hhbc_repo.specs.Fits.{body_fits, property_fits, initial_fits, class_fits}
+use Rattle.hhbc_repo.specs.LinkFaults.{Name, Whole, names, as_it_is, check, class_names, class_of, parent_in, parents, ancestors, different, properties, along, differ_from, stated_faults, parent_faults, body_faults, method_places, class_checks, property_checks, member_checks, each_class}
 use Rattle.hhbc_repo.specs.Resolved.{resolved_body, resolved_property, resolved_class}
 use Rattle.hhbc_repo.specs.TypeFits.{type_fits, where_there}
-use Rattle.hhbc_repo.proofs.AlikeWholes.{place, parent_same, type_same}
+use Rattle.hhbc_repo.proofs.AlikeWholes.{place, places_called, of_class, parent_same, type_same}
 use Rattle.hhbc_repo.proofs.BodiesBack.{BodyBack, body_back}
-use Rattle.hhbc_repo.proofs.TypesBack.{stated_back}
+use Rattle.hhbc_repo.proofs.TypesBack.{name_at_place, stated_back}
 use Rattle.hhbc_repo.proofs.NoFaults.{empty_left, empty_right, passes}
-use Rattle.hhbc_repo.proofs.NumbersPut.{same_name}
+use Rattle.hhbc_repo.proofs.PartsThatFit.{class_facts, class_from}
 use Rattle.hhbc_repo.proofs.RelabelledPositions.{none_both}
 use Rattle.hhbc_repo.proofs.RelaidWholes.{relaid_body, relaid_class, relaid, relaid_alike}
 
 -- ---- bodies
 
--- bodies that faults call by what comes of their names
-abbrev pub called_places : Whole → (Name → Name) → List BodyParts → List Place
-called_places w called bs = map (λ (b : BodyParts). record { whole = w; body = b; owner = called b.name }) bs
-
 pub record AllBack (w : Whole) (called : Name → Name) (bs : List BodyParts) : Type 0 where
   pub same : map (canonical_body (class_names w)) (map (resolved_body w) bs) ≡ map (relaid_body w) bs
   pub fit : list_all body_fits (map (relaid_body w) bs) ≡ true
   pub resolve : map (resolved_body (relaid w)) (map (relaid_body w) bs) ≡ map (resolved_body w) bs
-  pub pass : flat_map body_faults (called_places (relaid w) called (map (relaid_body w) bs)) ≡ []
+  pub pass : flat_map body_faults (places_called (relaid w) called (map (relaid_body w) bs)) ≡ []
 
 one_more : (w : Whole) (called : Name → Name) (b : BodyParts) (bs : List BodyParts) → BodyBack w b (called b.name) → AllBack w called bs → AllBack w called (b ∷ bs)
 one_more w called b bs one more = record {
   same = λ i. one.same i ∷ more.same i;
   fit = and_from (body_fits (relaid_body w b)) (list_all body_fits (map (relaid_body w) bs)) one.fits more.fit;
   resolve = λ i. one.resolves i ∷ more.resolve i;
-  pass = none_both (body_faults (place (relaid w) (relaid_body w b) (called b.name))) (flat_map body_faults (called_places (relaid w) called (map (relaid_body w) bs))) one.passes more.pass;
+  pass = none_both (body_faults (place (relaid w) (relaid_body w b) (called b.name))) (flat_map body_faults (places_called (relaid w) called (map (relaid_body w) bs))) one.passes more.pass;
 }
 
-pub all_back : (w : Whole) (called : Name → Name) (bs : List BodyParts) → list_all body_fits bs ≡ true → flat_map body_faults (called_places w called bs) ≡ [] → AllBack w called bs
+pub all_back : (w : Whole) (called : Name → Name) (bs : List BodyParts) → list_all body_fits bs ≡ true → flat_map body_faults (places_called w called bs) ≡ [] → AllBack w called bs
 all_back w called [] h e = record { same = refl; fit = refl; resolve = refl; pass = refl }
 all_back w called (b ∷ bs) h e =
     let p = and_parts (body_fits b) (list_all body_fits bs) h in
     let now = body_faults (place w b (called b.name)) in
-    let later = flat_map body_faults (called_places w called bs) in
+    let later = flat_map body_faults (places_called w called bs) in
     one_more w called b bs (body_back w b (called b.name) p.0 (empty_left now later e)) (all_back w called bs p.1 (empty_right now later e))
 
 -- ---- parents and properties
-
-place_named : (all : List Name) (name : Name) (n : ℕ) → place_in all name ≡ Some n → class_name all n ≡ name
-place_named all name n e =
-    let found = position-Some (is_name name) all n [] e in
-    ap named (slice_get-get_or all n [] found.0) ∙ sym (same_name name (get_or all n []) found.1)
 
 parent_back : (w : Whole) (owner : Name) (o : Option Name) → parent_faults w owner o ≡ [] → option_map (class_name (class_names w)) (parent_in w o) ≡ o
 parent_back w owner None e = refl
@@ -68,7 +57,7 @@ parent_back w owner (Some name) e = go (class_of w name) refl (passes (is_some (
   where
     go : (o : Option ℕ) → class_of w name ≡ o → is_some o ≡ true → option_map (class_name (class_names w)) o ≡ Some name
     go None f t = absurd (cc)
-    go (Some n) f t = ap Some (place_named (class_names w) name n f)
+    go (Some n) f t = ap Some (ap named (name_at_place (class_names w) name n f))
 
 property_back : (w : Whole) (owner : Name) (p : PropertyParts) → property_fits p ≡ true → stated_faults w owner p.stated ≡ [] → canonical_property (class_names w) (resolved_property w p) ≡ p
 property_back w owner p h e =
@@ -89,38 +78,6 @@ properties_back w owner before (p ∷ ps) h e =
     (properties_back w owner (before ++ p.name ∷ []) ps a.1 (empty_right stated later rest))
 
 -- ---- a class
-
-record ClassFitting (c : ClassParts) : Type 0 where
-  name : is_word c.name ≡ true
-  parent : where_there is_word c.parent ≡ true
-  consts : list_all const_fits c.consts ≡ true
-  props : list_all property_fits c.props ≡ true
-  methods : list_all body_fits c.methods ≡ true
-
-class_fitting : (c : ClassParts) → class_fits c ≡ true → ClassFitting c
-class_fitting c h =
-    let parent = where_there is_word c.parent in
-    let consts = list_all const_fits c.consts in
-    let props = list_all property_fits c.props in
-    let methods = list_all body_fits c.methods in
-    let x = and_parts (is_word c.name) (parent && (consts && (props && methods))) h in
-    let y = and_parts parent (consts && (props && methods)) x.1 in
-    let z = and_parts consts (props && methods) y.1 in
-    let u = and_parts props methods z.1 in
-    record { name = x.0; parent = y.0; consts = z.0; props = u.0; methods = u.1 }
-
-class_fits_with : (c : ClassParts) → ClassFitting c → class_fits c ≡ true
-class_fits_with c f =
-    let parent = where_there is_word c.parent in
-    let consts = list_all const_fits c.consts in
-    let props = list_all property_fits c.props in
-    let methods = list_all body_fits c.methods in
-    and_from (is_word c.name) (parent && (consts && (props && methods))) f.name
-    (and_from parent (consts && (props && methods)) f.parent (and_from consts (props && methods) f.consts (and_from props methods f.props f.methods)))
-
--- what faults call the methods of a class
-abbrev pub called_in : ClassParts → Name → Name
-called_in c name = c.name ++ (codes "::" ++ name)
 
 no_parent_fault : (w : Whole) (n : ℕ) (c : ClassParts) → class_checks w n c ≡ [] → parent_faults w c.name c.parent ≡ []
 no_parent_fault w n c e =
@@ -144,8 +101,8 @@ pub record ClassBack (w : Whole) (c : ClassParts) : Type 0 where
 
 class_back : (w : Whole) (n : ℕ) (c : ClassParts) → class_fits c ≡ true → class_checks w n c ≡ [] → member_checks w n c ≡ [] → flat_map body_faults (method_places w c) ≡ [] → ClassBack w c
 class_back w n c h e m p =
-    let f = class_fitting c h in
-    let bodies = all_back w (called_in c) c.methods f.methods p in
+    let f = class_facts c h in
+    let bodies = all_back w (of_class c) c.methods f.methods p in
     record {
       same = λ i. record {
         name = c.name;
@@ -154,7 +111,7 @@ class_back w n c h e m p =
         props = properties_back w c.name (along (properties w) (ancestors w n)) c.props f.props (no_property_fault w n c m) i;
         methods = bodies.same i;
       };
-      fits = class_fits_with (relaid_class w c) (record { name = f.name; parent = f.parent; consts = f.consts; props = f.props; methods = bodies.fit });
+      fits = class_from (relaid_class w c) (record { name = f.name; parent = f.parent; consts = f.consts; props = f.props; methods = bodies.fit });
       resolves = λ i. record {
         name = c.name;
         parent = parent_same w (relaid w) (relaid_alike w) c.parent i;

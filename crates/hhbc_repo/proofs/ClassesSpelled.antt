@@ -1,6 +1,6 @@
 -- Constants, properties, methods and classes that fit are spelled by their pieces, and these are told apart.
 use Rattle.std.proofs.Common.{◌≡◌, true, false, ◌&&◌, List, [], ◌∷◌, ◌++◌, map, Option, Some, None, codes, refl, sym, ap, subst, ◌∙◌, append_assoc}
-use Rattle.std.specs.List.{list_all, flat_map}
+use Rattle.std.specs.List.{flat_map}
 use Rattle.std.proofs.lemmas.Bool.{and_parts}
 use Rattle.std.proofs.lemmas.List.{append-nil}
 use Rattle.hhas_lex.specs.Spaced.{Spaced}
@@ -22,6 +22,7 @@ use Rattle.hhbc_repo.specs.CanonicalText.{line, spaced, tight, stated_pieces, ce
 use Rattle.hhbc_repo.proofs.BodiesSpelled.{stated_spelled, stated_clear, body_spelled, body_clear}
 use Rattle.hhbc_repo.proofs.Clearing.{tokens_in}
 use Rattle.hhbc_repo.proofs.ClearTogether.{IsClear, none_clear, both_clear, each_clear, line_clear, spaced_clear, tight_clear}
+use Rattle.hhbc_repo.proofs.PartsThatFit.{ClassFits, class_facts}
 use Rattle.hhbc_repo.proofs.PiecesSpelled.{pieces_both, pieces_ended}
 use Rattle.hhbc_repo.proofs.SpelledTogether.{many_spelled, picked, passed_over}
 
@@ -167,24 +168,6 @@ methods_kept c =
     ∙ passed_over methods_of AsProperty (λ v ms. refl) c.props (map AsMethod c.methods ++ [])
     ∙ picked methods_of AsMethod (λ v ms. refl) c.methods []
     ∙ append-nil c.methods)
-
--- what a class of which each part fits has
-record ClassFits (c : ClassParts) : Type 0 where
-  name : is_word c.name ≡ true
-  parent : where_there is_word c.parent ≡ true
-  consts : list_all const_fits c.consts ≡ true
-  props : list_all property_fits c.props ≡ true
-  methods : list_all body_fits c.methods ≡ true
-
-class_facts : (c : ClassParts) → class_fits c ≡ true → ClassFits c
-class_facts c h =
-    let props = list_all property_fits c.props && list_all body_fits c.methods in
-    let consts = list_all const_fits c.consts && props in
-    let x = and_parts (is_word c.name) (where_there is_word c.parent && consts) h in
-    let y = and_parts (where_there is_word c.parent) consts x.1 in
-    let z = and_parts (list_all const_fits c.consts) props y.1 in
-    let u = and_parts (list_all property_fits c.props) (list_all body_fits c.methods) z.1 in
-    record { name = x.0; parent = y.0; consts = z.0; props = u.0; methods = u.1 }
 
 members_spelled : (c : ClassParts) → ClassFits c → Many AMember (tokens_in (member_pieces c)) (members_of c)
 members_spelled c f =

@@ -29,21 +29,15 @@ use Rattle.hhbc_repo.specs.declared.parts.TypeParts.{TypeParts}
 use Rattle.hhbc_repo.specs.declared.body.Body.{Body}
 use Rattle.hhbc_repo.specs.declared.link_fault.LinkFault.{LinkFault}
 use Rattle.hhbc_repo.specs.declared.link_fault.LinkKind.TheVariants as reasons
-use Rattle.hhbc_repo.specs.Bodies as linked
 use Rattle.hhbc_repo.specs.Canonical.{local_name, canonical_arm, canonical_operand, canonical_base, canonical_key, canonical_final, canonical_code, canonical_assert, canonical_position}
 use Rattle.hhbc_repo.specs.CodeSyntax as parts
 use Rattle.hhbc_repo.specs.LinkFaults.{Name, Whole, Place, names, dollar, known, class_names, class_of, locals_of, local_faults, type_faults, key_local, operand_faults, instruction_faults, key_faults, base_faults, last_key, code_faults, assert_faults, position_faults}
-use Rattle.hhbc_repo.specs.Resolved.{local_number, class_number, resolved, resolved_arm, resolved_operand, resolved_base, resolved_key, resolved_final, resolved_code, resolved_assert, resolved_position, resolved_body}
+use Rattle.hhbc_repo.specs.Resolved.{local_number, class_number, resolved_arm, resolved_operand, resolved_base, resolved_key, resolved_final, resolved_code, resolved_assert, resolved_position, resolved_body}
 use Rattle.hhbc_repo.proofs.Relabelled.{relabelled_arm, relabelled_operand, relabelled_code, relabelled_position, new_label}
 use Rattle.hhbc_repo.specs.TypeFits.{type_fits, is_constraint}
 use Rattle.hhbc_repo.specs.Fits.{is_index, operand_fits, operands_fit, base_fits, query_key_fits, final_fits, code_fits, assert_fits, position_fits}
 use Rattle.hhbc_repo.proofs.NoFaults.{empty_left, empty_right, passes, constant_class, method_class}
-use Rattle.hhbc_repo.proofs.SoundLinks.{linked_class_names}
 use Rattle.hhbc_repo.proofs.TypesBack.{name_back, class_back, type_back}
-
--- the names of the classes are those before linking
-pub names_back : (w : Whole) → linked.class_names (resolved w) ≡ class_names w
-names_back w = linked_class_names w
 
 -- each value of a list comes back
 each_back : {A B : Type 0} (test : A → Bool) (faults_of : A → List LinkFault) (there : A → B) (back : B → A)

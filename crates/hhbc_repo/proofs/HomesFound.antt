@@ -10,6 +10,7 @@ use Rattle.hhbc_repo.specs.Linked.{Linked}
 use Rattle.hhbc_repo.specs.LinkFaults.{first_class}
 use Rattle.hhbc_repo.specs.Bodies.{bodies}
 use Rattle.hhbc_repo.specs.LookUps.{owners, owners_from, methods_in, method_names, total}
+use Rattle.hhbc_repo.proofs.Elements.{slice_inside}
 
 class : Home → Option ℕ
 class h = h.class
@@ -134,11 +135,6 @@ stands fs cs i h e = go (here_or_behind None 0 fs (methods_in cs) (homes_from fi
               ∙ sym w.numbered;
         }
 
-some_within : {A : Type 0} (xs : List A) (n : ℕ) → n < length xs → (x : A) × (slice_get xs n ≡ Some x)
-some_within [] n h = absurd (omega arith)
-some_within (x ∷ xs) zero h = (x, refl)
-some_within (x ∷ xs) (suc n) h = some_within xs n (omega (arith, h))
-
 -- what is listed as the home of a body is its home
 module _ (r : Linked) (homes : List Home) (e : homes ≡ homes_of r.functions r.classes) (b : ℕ) (d : Home) (h : b < length (bodies r)) where
   pub listed : b < length homes
@@ -149,5 +145,5 @@ module _ (r : Linked) (homes : List Home) (e : homes ≡ homes_of r.functions r.
 
   pub home_within : (get_or homes b d).place < length (bodies_in r.functions r.classes (get_or homes b d).class)
   home_within =
-      let k = some_within (bodies r) b h in
+      let k = slice_inside (bodies r) b h in
       slice_get_within (bodies_in r.functions r.classes (get_or homes b d).class) (get_or homes b d).place k.0 (home_stands.found ∙ k.1)

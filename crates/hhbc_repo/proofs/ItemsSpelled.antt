@@ -1,7 +1,7 @@
 -- Items that fit and close their bodies are spelled by their pieces.
 use Rattle.std.proofs.Common.{◌≡◌, ℕ, suc, true, false, not, List, [], ◌∷◌, ◌++◌, codes, refl, sym, ap, subst, ◌∙◌, append_assoc}
 use Rattle.std.specs.List.{list_all}
-use Rattle.std.proofs.lemmas.Bool.{and_parts}
+use Rattle.std.proofs.lemmas.Bool.{and_parts, not-true}
 use Rattle.std.proofs.lemmas.List.{append-nil}
 use Rattle.hhas_lex.specs.Tokens.{Token, Directive, Word, Mark}
 use Rattle.hhas_lex.specs.Spelling.{is_word}
@@ -14,7 +14,6 @@ use Rattle.hhbc_repo.specs.CanonicalText.{position_pieces, item_pieces}
 use Rattle.hhbc_repo.proofs.Clearing.{tokens_in}
 use Rattle.hhbc_repo.proofs.CodesSpelled.{position_spelled}
 use Rattle.hhbc_repo.proofs.ItemTrees.{HasCodes, grown}
-use Rattle.hhbc_repo.proofs.NoFaults.{not_false}
 use Rattle.hhbc_repo.proofs.PiecesSpelled.{tokens_both}
 use Rattle.hhbc_repo.proofs.SpelledTypes.{all_front, all_back}
 
@@ -57,7 +56,7 @@ tree_spelled depth Done c h = refl
 tree_spelled depth (Label l r) c h =
     let x = and_parts (is_label l) (list_all item_fits (parts_of r)) h in
     let y = and_parts (is_word l) (not (is_reserved l)) x.0 in
-    (not_false (is_reserved l) y.1, (tree_tokens depth r, tree_spelled depth r c x.1, refl))
+    (not-true (is_reserved l) y.1, (tree_tokens depth r, tree_spelled depth r c x.1, refl))
 tree_spelled depth (Position p r) c h =
     let x = and_parts (position_fits p) (list_all item_fits (parts_of r)) h in
     (tokens_in (position_pieces depth p), tree_tokens depth r, position_spelled depth p x.0, tree_spelled depth r c x.1, refl)

@@ -1,5 +1,6 @@
 -- Numbers of which each is kept once, one after the other.
-use Rattle.std.proofs.Common.{◌≡◌, ℕ, Bool, true, false, ◌==◌, ◌||◌, List, [], ◌∷◌, ◌++◌, refl, sym, ap, ◌∙◌, cond}
+use Rattle.std.proofs.Common.{◌≡◌, ℕ, Bool, true, false, ◌==◌, ◌||◌, List, [], ◌∷◌, ◌++◌, refl, sym, ap, ◌∙◌, cond, append_assoc}
+use Rattle.std.proofs.Math.Bool.{or-false, or_assoc}
 use Rattle.std.proofs.lemmas.Bool.Decides.{Decides-eqb}
 use Rattle.hhbc_repo.specs.Codes.{without, each_once}
 use Rattle.hhbc_repo.specs.EachOnce.{is_among, left, joined}
@@ -20,16 +21,8 @@ left_without out n (m ∷ ms) e = by_case (n == m) refl (is_among out m) refl (l
 
 -- the last of the first ones
 among_last : (out : List ℕ) (n m : ℕ) → is_among (out ++ n ∷ []) m ≡ (is_among out m || (n == m))
-among_last [] n m = or_false (n == m)
-  where
-    or_false : (b : Bool) → (b || false) ≡ b
-    or_false true = refl
-    or_false false = refl
-among_last (x ∷ out) n m = ap (λ b. (x == m) || b) (among_last out n m) ∙ or_assoc (x == m) (is_among out m) (n == m)
-  where
-    or_assoc : (a b c : Bool) → (a || (b || c)) ≡ ((a || b) || c)
-    or_assoc true b c = refl
-    or_assoc false b c = refl
+among_last [] n m = or-false (n == m)
+among_last (x ∷ out) n m = ap (λ b. (x == m) || b) (among_last out n m) ∙ sym (or_assoc (x == m) (is_among out m) (n == m))
 
 left_last : (out : List ℕ) (n : ℕ) (ns : List ℕ) → left (out ++ n ∷ []) ns ≡ left out (without n ns)
 left_last out n [] = refl
@@ -42,10 +35,6 @@ left_last out n (m ∷ ms) = by_case (n == m) refl (is_among out m) refl (left_l
     by_case false s true a ih = rw (among_last out n m, s, a) ih
     by_case false s false a ih = rw (among_last out n m, s, a) (ap (λ l. m ∷ l) ih)
 
-append_assoc : (xs : List ℕ) (y : ℕ) (zs : List ℕ) → (xs ++ y ∷ []) ++ zs ≡ xs ++ y ∷ zs
-append_assoc [] y zs = refl
-append_assoc (x ∷ xs) y zs = ap (λ l. x ∷ l) (append_assoc xs y zs)
-
 -- a number that is there already
 pub joined_there : (out : List ℕ) (n : ℕ) (more : List ℕ) → is_among out n ≡ true → joined out more ≡ joined out (n ∷ more)
 joined_there out n more e = rw e (ap (λ l. out ++ l) (sym (left_without out n (each_once more) e)))
@@ -53,7 +42,7 @@ joined_there out n more e = rw e (ap (λ l. out ++ l) (sym (left_without out n (
 -- a number that isn't there yet
 pub joined_new : (out : List ℕ) (n : ℕ) (more : List ℕ) → is_among out n ≡ false → joined (out ++ n ∷ []) more ≡ joined out (n ∷ more)
 joined_new out n more e =
-    rw e (append_assoc out n (left (out ++ n ∷ []) (each_once more)) ∙ ap (λ l. out ++ n ∷ l) (left_last out n (each_once more)))
+    rw e (append_assoc out (n ∷ []) (left (out ++ n ∷ []) (each_once more)) ∙ ap (λ l. out ++ n ∷ l) (left_last out n (each_once more)))
 
 pub joined_none : (out : List ℕ) → joined out [] ≡ out
 joined_none [] = refl

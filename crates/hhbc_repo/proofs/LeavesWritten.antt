@@ -1,7 +1,7 @@
 -- The written form of a leaf or key that fits stands for it, and its tokens spell it.
 use Rattle.std.proofs.Common.{◌≡◌, ℕ, ◌+◌, Bool, true, false, not, if◌then◌else◌, List, [], ◌∷◌, ◌++◌, map, length, refl, sym, ap, ap₂, ◌∙◌, arith, length-append}
 use Rattle.std.specs.List.{list_all, flat_map}
-use Rattle.std.proofs.lemmas.Bool.{and_parts}
+use Rattle.std.proofs.lemmas.Bool.{and_parts, not-true}
 use Rattle.std.proofs.lemmas.List.{append-nil}
 use Rattle.hhas_lex.specs.Spelling.{is_word}
 use Rattle.type_lattice.specs.declared.types.IntPart.{IntPart}
@@ -23,7 +23,6 @@ use Rattle.hhbc_repo.specs.WrittenTypes.{atom, bool_atoms, int_atoms, str_atoms,
 use Rattle.hhbc_repo.specs.WrittenTypes as written
 use Rattle.hhbc_repo.proofs.AtomsSpelled.{Segment, segments, switch_segment, bools_segment, ints_segment, strs_segment, objs_segment, short_fits, atom_fits, atom_spelled, atoms_spelled, atom_inner, separated_spelled, Climbs, climbs_ascend}
 use Rattle.hhbc_repo.proofs.InnerTokens.{Inner, AllInner, inner_word, inner_joined}
-use Rattle.hhbc_repo.proofs.NoFaults.{not_false}
 use Rattle.hhbc_repo.proofs.SpelledTypes.{all_both}
 
 -- ---- whole leaves and keys
@@ -93,15 +92,15 @@ key_parts k h =
     let k5 = and_parts (not k.vec) _ k4.1 in
     let k6 = and_parts (not k.dict) (not k.keyset) k5.1 in
     let same : k ≡ of_keys k.int k.str = λ i. record {
-      null = not_false k.null k1.0 i;
-      no = not_false k.no k2.0 i;
-      yes = not_false k.yes k3.0 i;
+      null = not-true k.null k1.0 i;
+      no = not-true k.no k2.0 i;
+      yes = not-true k.yes k3.0 i;
       int = k.int;
       str = k.str;
       obj = objs_none k.obj k4.0 i;
-      vec = not_false k.vec k5.0 i;
-      dict = not_false k.dict k6.0 i;
-      keyset = not_false k.keyset k6.1 i;
+      vec = not-true k.vec k5.0 i;
+      dict = not-true k.dict k6.0 i;
+      keyset = not-true k.keyset k6.1 i;
     } in
     record { int = r.0; str = r.1; is = sym same }
 

@@ -1,5 +1,7 @@
+pub mod Elements
 pub mod Numbering
 pub mod PartsOfTypes
+pub mod PartsThatFit
 pub mod FirstForm
 pub mod Growing
 pub mod LocalCodes

@@ -19,7 +19,7 @@ use Rattle.hhbc_repo.specs.Resolved.{resolved_body, resolved_class, resolved, Li
 use Rattle.hhbc_repo.proofs.AlikeWholes.{parent_faults_same, property_checks_same}
 use Rattle.hhbc_repo.proofs.BodyCounts.{places_start, methods_next}
 use Rattle.hhbc_repo.proofs.ClassesBack.{AllBack, all_back, ClassesBack, classes_back}
-use Rattle.hhbc_repo.proofs.NoFaults.{empty_left, empty_right}
+use Rattle.hhbc_repo.proofs.NoFaults.{NoneFails, none_fails}
 use Rattle.hhbc_repo.proofs.RelabelledPositions.{none_both}
 use Rattle.hhbc_repo.proofs.RelaidWholes.{relaid_body, relaid_class, relaid, relaid_alike}
 use Rattle.hhbc_repo.proofs.SoundLinks.{linked_class_names}
@@ -75,36 +75,7 @@ counts_same w =
 
 -- ---- all of it
 
-record AllPass (w : Whole) : Type 0 where
-  counts : count_faults w ≡ []
-  functions : repeated_functions [] w.functions ≡ []
-  classes : each_class (class_checks w) first_class w.classes ≡ []
-  members : each_class (member_checks w) first_class w.classes ≡ []
-  bodies : flat_map body_faults (function_places w) ≡ []
-  methods : flat_map body_faults (flat_map (method_places w) w.classes) ≡ []
-
-all_pass : (w : Whole) → faults w ≡ [] → AllPass w
-all_pass w h =
-    let functions = repeated_functions [] w.functions in
-    let classes = each_class (class_checks w) first_class w.classes in
-    let members = each_class (member_checks w) first_class w.classes in
-    let rest = flat_map body_faults (places w) in
-    let bodies = flat_map body_faults (function_places w) in
-    let methods = flat_map body_faults (flat_map (method_places w) w.classes) in
-    let from_functions = empty_right (count_faults w) (functions ++ (classes ++ (members ++ rest))) h in
-    let from_classes = empty_right functions (classes ++ (members ++ rest)) from_functions in
-    let from_members = empty_right classes (members ++ rest) from_classes in
-    let split = sym (flat_map-append body_faults (function_places w) (flat_map (method_places w) w.classes)) ∙ empty_right members rest from_members in
-    record {
-      counts = empty_left (count_faults w) (functions ++ (classes ++ (members ++ rest))) h;
-      functions = empty_left functions (classes ++ (members ++ rest)) from_functions;
-      classes = empty_left classes (members ++ rest) from_classes;
-      members = empty_left members rest from_members;
-      bodies = empty_left bodies methods split;
-      methods = empty_right bodies methods split;
-    }
-
-passes_with : (w : Whole) → AllPass w → faults w ≡ []
+passes_with : (w : Whole) → NoneFails w → faults w ≡ []
 passes_with w p =
     let functions = repeated_functions [] w.functions in
     let classes = each_class (class_checks w) first_class w.classes in
@@ -124,7 +95,7 @@ canonical_with all w = record { functions = map (canonical_body all) (map (resol
 abbrev pub BackAs : Whole → Whole → Type 0
 BackAs w v = (parts_fit v.functions v.classes ≡ true) × LinksTo v (resolved w)
 
-back_from : (w : Whole) → AllPass w → AllBack w as_it_is w.functions → ClassesBack w w.classes → BackAs w (canonical (resolved w))
+back_from : (w : Whole) → NoneFails w → AllBack w as_it_is w.functions → ClassesBack w w.classes → BackAs w (canonical (resolved w))
 back_from w p fs cs =
     let functions : map (canonical_body (class_names w)) (map (resolved_body w) w.functions) ≡ map (relaid_body w) w.functions = fs.same in
     let classes : map (canonical_class (class_names w)) (map (resolved_class w) w.classes) ≡ map (relaid_class w) w.classes = cs.same in
@@ -146,5 +117,5 @@ pub linked_back : (w : Whole) → parts_fit w.functions w.classes ≡ true → f
     → (parts_fit (canonical (resolved w)).functions (canonical (resolved w)).classes ≡ true) × LinksTo (canonical (resolved w)) (resolved w)
 linked_back w h e =
     let a = and_parts (list_all body_fits w.functions) (list_all class_fits w.classes) h in
-    let p = all_pass w e in
+    let p = none_fails w e in
     back_from w p (all_back w as_it_is w.functions a.0 p.bodies) (classes_back w first_class w.classes a.1 p.classes p.members p.methods)

@@ -1,5 +1,6 @@
 -- No run of a repository whose codes are those of constants and locals is stuck.
-use Rattle.std.proofs.Common.{◌≡◌, ◌≢◌, ◌⊎◌, inl, inr, ℕ, zero, suc, ◌-◌, ◌<◌, ◌≤◌, refl, sym, ◌∙◌, ap, subst, Bool, true, false, ◌&&◌, nat_le, Option, Some, None, List, [], ◌∷◌, map, replicate, slice_get, length, arith, length-append, leb-true}
+use Rattle.std.proofs.Common.{◌≡◌, ◌≢◌, ◌⊎◌, inl, inr, ℕ, zero, suc, ◌-◌, ◌<◌, ◌≤◌, refl, sym, ◌∙◌, ap, subst, Bool, true, false, nat_le, Option, Some, None, List, [], ◌∷◌, map, replicate, slice_get, length, arith, length-append, leb-true}
+use Rattle.std.proofs.lemmas.Bool.{and_parts}
 use Rattle.std.proofs.lemmas.List.{length-map, length-replicate}
 use Rattle.hack_values.specs.declared.cell.Cell.{Cell}
 use Rattle.hack_values.specs.declared.cell.Slot.{Slot}
@@ -24,11 +25,12 @@ use Rattle.hhbc_repo.specs.Outcome.{Outcome, Why, Underflow, Stuck, AssertFalse}
 use Rattle.hhbc_repo.specs.Steps.{Config, Running, Ended, place_of, steps_by}
 use Rattle.hhbc_repo.specs.Run.{slot_in, and_then, test, asserts_in, asserts_of, after, entered, start, result_of}
 use Rattle.hhbc_repo.specs.Shapes.{Shape, AllPass, given, agree, reaches, pops_of, slots_read_of, iter_use_of, all_within, all_cells, iter_checks, Types}
-use Rattle.hhbc_repo.specs.Soundness.{Sound, Starts}
+use Rattle.hhbc_repo.specs.Soundness.{Sound}
 use Rattle.hhbc_repo.specs.Soundness as soundness
 use Rattle.hhbc_repo.specs.Truth.{FirstFormNeverSticks, SecondFormNeverSticks}
 use Rattle.hhbc_repo.specs.Tested.{IsStopped}
 use Rattle.hhbc_repo.specs.ShapeAnalysis.{AreOfFlavours, AreLive, IsOfShape, HasSlots, entry_shape, by_shapes, AssertsWithin, HasLocalCodes, LocalCodesNeverStick}
+use Rattle.hhbc_repo.proofs.Elements.{slice_inside}
 use Rattle.hhbc_repo.proofs.Walking.{there, code_is, claimed_at, first_is_second}
 use Rattle.hhbc_repo.proofs.FirstForm.{only, second_is}
 use Rattle.hhbc_repo.proofs.ShapeTables.{Passes, passes, passes_bare, body_bare, code_of_bare, given_bare}
@@ -59,12 +61,6 @@ entered_locals n b args l e =
     let k = length-replicate (length b.locals - b.params) slots.Uninit in
     omega (arith, a, m, k, l, e)
 
--- a slot that is there
-slot_there : (ss : List Slot) (i : ℕ) → i < length ss → (s : Slot) × (slice_get ss i ≡ Some s)
-slot_there [] i l = absurd (omega arith)
-slot_there (s ∷ ss) zero l = (s, refl)
-slot_there (s ∷ ss) (suc i) l = slot_there ss i (omega arith)
-
 one_found : (tree : Tree) (heap : Heap) (o : Option Slot) (s : Slot) (t : HType) (more : Option Bool) → o ≡ Some s
     → (more ≡ None → ⊥) → and_then (slot_in tree heap o t) more ≡ None → ⊥
 one_found tree heap o s t more e rest none =
@@ -74,22 +70,18 @@ one_found tree heap o s t more e rest none =
     by_member true e = rest e
     by_member false e = cc
 
-both : (a c : Bool) → (a && c) ≡ true → (a ≡ true) × (c ≡ true)
-both true c h = (refl, h)
-both false c h = absurd (cc)
-
 -- assertions within the locals and the stack of a frame find their slots
 all_found : (tree : Tree) (heap : Heap) (f : Frame) (count : ℕ) (xs : List Assert) → length f.locals ≡ count → AssertsWithin count xs
     → reaches xs (length f.stack) ≡ true → test tree heap f xs ≡ None → ⊥
 all_found tree heap f count [] e within r none = cc
 all_found tree heap f count (asserts.Local l t ∷ more) e within r none =
-    let s = slot_there f.locals l (omega (arith, e, within.0)) in
+    let s = slice_inside f.locals l (omega (arith, e, within.0)) in
     one_found tree heap (slice_get f.locals l) s.0 t (test tree heap f more) s.1
-    (all_found tree heap f count more e within.1 (both _ _ r).1) none
+    (all_found tree heap f count more e within.1 (and_parts _ _ r).1) none
 all_found tree heap f count (asserts.Stack i t ∷ more) e within r none =
-    let k = both (nat_le (suc i) (length f.stack)) _ r in
+    let k = and_parts (nat_le (suc i) (length f.stack)) _ r in
     let m : suc i ≤ length f.stack = leb-true _ _ k.0 in
-    let s = slot_there f.stack i (omega (arith, m)) in
+    let s = slice_inside f.stack i (omega (arith, m)) in
     one_found tree heap (slice_get f.stack i) s.0 t (test tree heap f more) s.1 (all_found tree heap f count more e within k.1) none
 
 module _ (r : Linked) (codes : HasLocalCodes r) (types : Types r) where

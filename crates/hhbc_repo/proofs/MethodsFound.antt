@@ -1,5 +1,5 @@
 -- The number of a method is that of a body of its name, in the class or above it.
-use Rattle.std.proofs.Common.{IfSome, ◌≡◌, ◌+◌, ℕ, zero, suc, List, [], ◌∷◌, ◌++◌, Bool, true, false, ◌||◌, ◌==◌, nat_eq, Option, Some, None, refl, ap, sym, ◌∙◌, map, length, slice_get, get_or, arith, subst}
+use Rattle.std.proofs.Common.{IfSome, ◌≡◌, ◌+◌, ℕ, zero, suc, List, [], ◌∷◌, ◌++◌, Bool, true, false, ◌||◌, ◌==◌, Option, Some, None, refl, ap, sym, ◌∙◌, map, length, slice_get, get_or, arith, subst}
 use Rattle.std.proofs.lemmas.Bool.{eq-eqb}
 use Rattle.std.proofs.lemmas.List.{length-map}
 use Rattle.std.proofs.lemmas.List.Quantifiers.{position-Some}
@@ -12,24 +12,12 @@ use Rattle.hhbc_repo.specs.LinkFaults.{Name, is_name, place_in, first_class}
 use Rattle.hhbc_repo.specs.Bodies.{bodies, numbers, tree_of}
 use Rattle.hhbc_repo.specs.LookUps.{IsMethodOf, all_methods, first_some, function_names, method_names, method_of, methods_in, no_names, number_at, or_else, own_number, owners, owners_from}
 use Rattle.hhbc_repo.proofs.Numbered.{numbers-get, place-within}
+use Rattle.hhbc_repo.proofs.NumbersPut.{same_name}
 use Rattle.hhbc_repo.proofs.ShapeTables.{before_last, from_map, to_map}
 
 behind_first : {A : Type 0} (xs ys : List A) (n : ℕ) → slice_get (xs ++ ys) (length xs + n) ≡ slice_get ys n
 behind_first [] ys n = ap (slice_get ys) (omega arith)
 behind_first (x ∷ xs) ys n = let e : suc (length xs) + n ≡ suc (length xs + n) = omega arith in ap (slice_get (x ∷ (xs ++ ys))) e ∙ behind_first xs ys n
-
-both : (a b : ℕ) (xs ys : List ℕ) → is_name (b ∷ ys) (a ∷ xs) ≡ true → (a ≡ b) × (is_name ys xs ≡ true)
-both a b xs ys h = go (nat_eq a b) refl h
-  where
-    go : (t : Bool) → nat_eq a b ≡ t → is_name (b ∷ ys) (a ∷ xs) ≡ true → (a ≡ b) × (is_name ys xs ≡ true)
-    go true e k = (grind (arith, e), rw e at k)
-    go false e k = let w : false ≡ true = rw e at k in absurd (cc)
-
-same_name : (other name : Name) → is_name name other ≡ true → other ≡ name
-same_name [] [] h = refl
-same_name [] (b ∷ ys) h = absurd (cc)
-same_name (a ∷ xs) [] h = absurd (cc)
-same_name (a ∷ xs) (b ∷ ys) h = let e = both a b xs ys h in let k = same_name xs ys e.1 in let l = e.0 in cc
 
 module _ (name : Name) where
   record Named (bs : List Body) (p : ℕ) : Type 0 where
@@ -41,7 +29,7 @@ module _ (name : Name) where
   named_at bs p h =
       let k = position-Some (is_name name) (function_names bs) p [] h in
       let m = from_map (λ (b : Body). b.name) bs p (get_or (function_names bs) p []) (slice_get-get_or (function_names bs) p [] k.0) in
-      record { body = m.0; there = m.1; named = m.2 ∙ same_name (get_or (function_names bs) p []) name k.1 }
+      record { body = m.0; there = m.1; named = m.2 ∙ sym (same_name name (get_or (function_names bs) p []) k.1) }
 
   -- a method that a class declares itself, where bodies are numbered from a first number and classes from a base
   record Own (first base : ℕ) (cs : List Class) (d n : ℕ) : Type 0 where

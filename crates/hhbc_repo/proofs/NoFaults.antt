@@ -1,6 +1,7 @@
 -- What a list of checks says where none of them fails.
-use Rattle.std.proofs.Common.{◌≡◌, ◌≤◌, ℕ, zero, suc, ◌+◌, Bool, true, false, ◌||◌, not, List, [], ◌∷◌, ◌++◌, Option, Some, None, is_some, slice_get, length, nat_le, refl, sym, ap, ◌∙◌, subst, arith, append_assoc, map, take}
-use Rattle.std.proofs.lemmas.Bool.{leb-true, and_from, and_parts}
+use Rattle.std.proofs.Common.{◌≡◌, ◌≤◌, ℕ, zero, suc, ◌+◌, Bool, true, false, ◌||◌, not, List, [], ◌∷◌, ◌++◌, Option, Some, None, is_some, slice_get, length, nat_le, refl, sym, ap, ◌∙◌, subst, arith, append_assoc, map, flat_map, take}
+use Rattle.std.proofs.lemmas.Bool.{leb-true, and_from, and_parts, not-true}
+use Rattle.std.proofs.lemmas.Grind.{flat_map-append}
 use Rattle.std.proofs.lemmas.List.{length-append}
 use Rattle.std.proofs.lemmas.List.Folds.{list_any-append}
 use Rattle.std.proofs.Math.Seq.{take-append_seam}
@@ -12,7 +13,7 @@ use Rattle.hhbc_repo.specs.declared.parts.BodyParts.{BodyParts}
 use Rattle.hhbc_repo.specs.declared.parts.ClassParts.{ClassParts}
 use Rattle.hhbc_repo.specs.declared.parts.PropertyParts.{PropertyParts}
 use Rattle.hhbc_repo.specs.Names.{distinct_from}
-use Rattle.hhbc_repo.specs.LinkFaults.{Name, Whole, Place, is_name, names, check, within, differ_from, class_names, parents, parent_faults, ancestors, different, stated_faults, constant_faults, method_faults, repeated_functions, class_checks, property_checks, each_class}
+use Rattle.hhbc_repo.specs.LinkFaults.{Name, Whole, Place, is_name, names, check, within, differ_from, class_names, parents, parent_faults, ancestors, different, stated_faults, constant_faults, method_faults, repeated_functions, class_checks, property_checks, each_class, body_faults, function_places, method_places, places, count_faults, member_checks, first_class, faults, as_it_is, dollar, locals_of, labels_of, positions_of, limit_faults, position_faults}
 
 pub empty_left : {A : Type 0} (xs ys : List A) → xs ++ ys ≡ [] → xs ≡ []
 empty_left [] ys h = refl
@@ -37,10 +38,6 @@ constant_class p name class (Some c) e = refl
 pub method_class : (p : Place) (name class : Name) (n : ℕ) (o : Option ℕ) → method_faults p name class n o ≡ [] → is_some o ≡ true
 method_class p name class n None e = absurd (cc)
 method_class p name class n (Some c) e = refl
-
-pub not_false : (b : Bool) → not b ≡ true → b ≡ false
-not_false true h = absurd (cc)
-not_false false h = refl
 
 -- names apart from these and those before are apart from these
 or_right : (a b : Bool) → not (a || b) ≡ true → not b ≡ true
@@ -101,7 +98,7 @@ pub record Passes (w : Whole) (n : ℕ) (c : ClassParts) : Type 0 where
 pub class_passes : (w : Whole) (n : ℕ) (c : ClassParts) → class_checks w n c ≡ [] → Passes w n c
 class_passes w n c h = record {
   named = passes (not (names (take n (class_names w)) c.name)) kinds.DuplicateName c.name c.name 0 (empty_left name (parent ++ (cycle ++ deep)) h);
-  acyclic = not_false (has n (ancestors w n)) (passes (not (has n (ancestors w n))) kinds.ClassCycle c.name c.name 0
+  acyclic = not-true (has n (ancestors w n)) (passes (not (has n (ancestors w n))) kinds.ClassCycle c.name c.name 0
       (empty_left cycle deep (empty_right parent (cycle ++ deep) (empty_right name (parent ++ (cycle ++ deep)) h))));
 }
   where
@@ -133,3 +130,75 @@ classes_differ w before (c ∷ cs) all h =
     and_from (not (names before c.name)) (distinct_from (before ++ c.name ∷ []) more)
     (subst (λ (l : List Name). not (names l c.name) ≡ true) front here)
     (classes_differ w (before ++ c.name ∷ []) cs (append_assoc before (c.name ∷ []) more ∙ all) rest)
+
+-- ---- a body
+
+-- what the checks of a body say where none fails
+pub record Faultless (p : Place) : Type 0 where
+  pub limits : limit_faults p ≡ []
+  pub locals : differ_from kinds.DuplicateName p.owner dollar [] (locals_of p.body) ≡ []
+  pub labels : differ_from kinds.DuplicateLabel p.owner as_it_is [] (labels_of p.body) ≡ []
+  pub stated : stated_faults p.whole p.owner p.body.stated ≡ []
+  pub positions : flat_map (position_faults p) (positions_of p.body) ≡ []
+
+pub faultless : (p : Place) → body_faults p ≡ [] → Faultless p
+faultless p e =
+    let limits = limit_faults p in
+    let locals = differ_from kinds.DuplicateName p.owner dollar [] (locals_of p.body) in
+    let labels = differ_from kinds.DuplicateLabel p.owner as_it_is [] (labels_of p.body) in
+    let stated = stated_faults p.whole p.owner p.body.stated in
+    let each = flat_map (position_faults p) (positions_of p.body) in
+    let from_locals = empty_right limits (locals ++ (labels ++ (stated ++ each))) e in
+    let from_labels = empty_right locals (labels ++ (stated ++ each)) from_locals in
+    let from_stated = empty_right labels (stated ++ each) from_labels in
+    record {
+      limits = empty_left limits (locals ++ (labels ++ (stated ++ each))) e;
+      locals = empty_left locals (labels ++ (stated ++ each)) from_locals;
+      labels = empty_left labels (stated ++ each) from_labels;
+      stated = empty_left stated each from_stated;
+      positions = empty_right stated each from_stated;
+    }
+
+-- ---- all of it
+
+-- no list of checks has a fault
+pub record Passed (w : Whole) : Type 0 where
+  pub counts : count_faults w ≡ []
+  pub functions : repeated_functions [] w.functions ≡ []
+  pub classes : each_class (class_checks w) first_class w.classes ≡ []
+  pub members : each_class (member_checks w) first_class w.classes ≡ []
+  pub bodies : flat_map body_faults (places w) ≡ []
+
+pub passed : (w : Whole) → faults w ≡ [] → Passed w
+passed w h =
+    let functions = repeated_functions [] w.functions in
+    let classes = each_class (class_checks w) first_class w.classes in
+    let members = each_class (member_checks w) first_class w.classes in
+    let rest = flat_map body_faults (places w) in
+    let from_functions = empty_right (count_faults w) (functions ++ (classes ++ (members ++ rest))) h in
+    let from_classes = empty_right functions (classes ++ (members ++ rest)) from_functions in
+    let from_members = empty_right classes (members ++ rest) from_classes in
+    record {
+      counts = empty_left (count_faults w) (functions ++ (classes ++ (members ++ rest))) h;
+      functions = empty_left functions (classes ++ (members ++ rest)) from_functions;
+      classes = empty_left classes (members ++ rest) from_classes;
+      members = empty_left members rest from_members;
+      bodies = empty_right members rest from_members;
+    }
+
+-- the same, with functions and methods apart
+pub record NoneFails (w : Whole) : Type 0 where
+  pub counts : count_faults w ≡ []
+  pub functions : repeated_functions [] w.functions ≡ []
+  pub classes : each_class (class_checks w) first_class w.classes ≡ []
+  pub members : each_class (member_checks w) first_class w.classes ≡ []
+  pub bodies : flat_map body_faults (function_places w) ≡ []
+  pub methods : flat_map body_faults (flat_map (method_places w) w.classes) ≡ []
+
+pub none_fails : (w : Whole) → faults w ≡ [] → NoneFails w
+none_fails w h =
+    let p = passed w h in
+    let bodies = flat_map body_faults (function_places w) in
+    let methods = flat_map body_faults (flat_map (method_places w) w.classes) in
+    let parted = sym (flat_map-append body_faults (function_places w) (flat_map (method_places w) w.classes)) ∙ p.bodies in
+    record { counts = p.counts; functions = p.functions; classes = p.classes; members = p.members; bodies = empty_left bodies methods parted; methods = empty_right bodies methods parted }

@@ -1,5 +1,6 @@
 -- The numbers of what classes declare, by the number of each class's first.
-use Rattle.std.proofs.Common.{◌≡◌, ◌<◌, ◌≤◌, ◌^◌, ℕ, zero, suc, ◌+◌, List, [], ◌∷◌, ◌++◌, refl, ap, sym, ◌∙◌, Option, Some, None, slice_get, map, length, arith, subst, option_map, replicate, Bool, true, false, ◌&&◌, append_assoc}
+use Rattle.std.proofs.Common.{◌≡◌, ◌<◌, ◌≤◌, ◌^◌, ℕ, zero, suc, ◌+◌, List, [], ◌∷◌, ◌++◌, refl, ap, sym, ◌∙◌, Option, Some, None, slice_get, map, length, arith, subst, option_map, replicate, true, append_assoc}
+use Rattle.std.proofs.lemmas.Bool.{and_parts}
 use Rattle.std.proofs.lemmas.Option.{slice_get-map}
 use Rattle.std.proofs.lemmas.List.{map-append}
 use Rattle.std.specs.List.{list_all}
@@ -96,14 +97,6 @@ replicate_more zero = refl
 replicate_more (suc n) = let e : suc n + 1 ≡ suc (n + 1) = omega arith in rw e (ap (λ l. [] ∷ l) (replicate_more n))
 
 -- a further class's names, where names are listed by class and those of the classes left are behind them
-and_right : (a b : Bool) → (a && b) ≡ true → b ≡ true
-and_right true b h = h
-and_right false b h = absurd (cc)
-
-and_left : (a b : Bool) → (a && b) ≡ true → a ≡ true
-and_left true b h = refl
-and_left false b h = absurd (cc)
-
 pub record Listed (f : Class → List (List ℕ)) (first : ℕ) (all here : List (List (List ℕ))) (left : List Class) : Type 0 where
   pub joined : here ++ map f left ≡ all
   pub differ : list_all distinct (map f left) ≡ true
@@ -112,7 +105,7 @@ pub record Listed (f : Class → List (List ℕ)) (first : ℕ) (all here : List
 listed-cons : (f : Class → List (List ℕ)) (first : ℕ) (all here : List (List (List ℕ))) (c : Class) (rest : List Class) → Listed f first all here (c ∷ rest) → Listed f first all (here ++ f c ∷ []) rest
 listed-cons f first all here c rest l = record {
   joined = append_assoc here (f c ∷ []) (map f rest) ∙ l.joined;
-  differ = and_right (distinct (f c)) (list_all distinct (map f rest)) l.differ;
+  differ = (and_parts (distinct (f c)) (list_all distinct (map f rest)) l.differ).1;
   fits = let t = total_append here (f c) in let h = l.fits in omega (arith, t, h);
 }
 
@@ -120,7 +113,7 @@ pub listed-more : (f : Class → List (List ℕ)) (first : ℕ) (all here new : 
 listed-more f first all here new c left rest e n l = subst (λ (m : List (List (List ℕ))). Listed f first all m rest) (sym n) (listed-cons f first all here c rest (subst (Listed f first all here) e l))
 
 pub listed-differ : (f : Class → List (List ℕ)) (first : ℕ) (all here : List (List (List ℕ))) (c : Class) (left rest : List Class) → left ≡ c ∷ rest → Listed f first all here left → distinct (f c) ≡ true
-listed-differ f first all here c left rest e l = and_left (distinct (f c)) (list_all distinct (map f rest)) (subst (λ (cs : List Class). list_all distinct (map f cs) ≡ true) e l.differ)
+listed-differ f first all here c left rest e l = (and_parts (distinct (f c)) (list_all distinct (map f rest)) (subst (λ (cs : List Class). list_all distinct (map f cs) ≡ true) e l.differ)).0
 
 pub listed-fits : (f : Class → List (List ℕ)) (first : ℕ) (all here : List (List (List ℕ))) (c : Class) (left rest : List Class) → left ≡ c ∷ rest → Listed f first all here left → first + total here + length (f c) < 2 ^ 32
 listed-fits f first all here c left rest e l = let h = subst (λ (cs : List Class). first + (total here + total (map f cs)) < 2 ^ 32) e l.fits in omega (arith, h)

@@ -1,9 +1,11 @@
 -- Names that are added keep the number that they have.
 use Rattle.std.proofs.Common.{◌≡◌, ℕ, zero, suc, Bool, true, false, if◌then◌else◌, List, [], ◌∷◌, ◌++◌, refl, sym, ap, ◌∙◌, subst, Option, Some, None, option_map, length, slice_get, get_or, arith, cond, take, ◌<◌, ◌+◌}
+use Rattle.std.proofs.lemmas.List.{length_push}
 use Rattle.std.proofs.lemmas.List.Quantifiers.{position-Some}
 use Rattle.hhbc_repo.specs.LinkFaults.{Name, is_name, names, place_in}
 use Rattle.hhbc_repo.specs.LookUps.{number_at, or_else}
 use Rattle.hhbc_repo.specs.FirstNumbers.{Numbers, number_of, put, Finds}
+use Rattle.hhbc_repo.proofs.Elements.{slice_inside, slice_last}
 
 -- a name that is found is the other
 pub same_name : (q name : Name) → is_name q name ≡ true → q ≡ name
@@ -61,15 +63,6 @@ slice_append [] n i h = absurd (omega arith)
 slice_append (x ∷ xs) n zero h = refl
 slice_append (x ∷ xs) n (suc i) h = slice_append xs n i (omega arith)
 
-slice_last : (xs : List ℕ) (n : ℕ) → slice_get (xs ++ n ∷ []) (length xs) ≡ Some n
-slice_last [] n = refl
-slice_last (x ∷ xs) n = slice_last xs n
-
-slice_inside : (xs : List ℕ) (i : ℕ) → i < length xs → (v : ℕ) × (slice_get xs i ≡ Some v)
-slice_inside [] i h = absurd (omega arith)
-slice_inside (x ∷ xs) zero h = (x, refl)
-slice_inside (x ∷ xs) (suc i) h = slice_inside xs i (omega arith)
-
 place_inside : (all : List Name) (q : Name) (i : ℕ) → place_in all q ≡ Some i → i < length all
 place_inside all q i e = (position-Some (is_name q) all i [] e).0
 
@@ -94,14 +87,6 @@ kept all true None h = absurd (cc (h refl).1)
 found : (all : List Name) (name q : Name) → is_name q name ≡ true → (k : ℕ) → place_in all name ≡ Some k → (k : ℕ) × (place_in all q ≡ Some k)
 found all name q b k e = (k, ap (λ n. place_in all n) (same_name q name b) ∙ e)
 
-length_names : (xs : List Name) (x : Name) → length (xs ++ x ∷ []) ≡ suc (length xs)
-length_names [] x = refl
-length_names (y ∷ ys) x = ap (λ k. suc k) (length_names ys x)
-
-length_numbers : (xs : List ℕ) (x : ℕ) → length (xs ++ x ∷ []) ≡ suc (length xs)
-length_numbers [] x = refl
-length_numbers (y ∷ ys) x = ap (λ k. suc k) (length_numbers ys x)
-
 -- names with their first places, and one name more
 pub put_finds : (t : Numbers) (all : List Name) (name : Name) → Finds t all → Finds (put t name (length all)) (all ++ name ∷ [])
 put_finds t all name f = go (place_in t.known name) refl
@@ -109,7 +94,7 @@ put_finds t all name f = go (place_in t.known name) refl
     go : (o : Option ℕ) → place_in t.known name ≡ o → Finds (put t name (length all)) (all ++ name ∷ [])
     go None h =
         subst (λ p. Finds p (all ++ name ∷ [])) (sym (put_absent t name (length all) h)) (
-          length_names t.known name ∙ ap (λ k. suc k) f.0 ∙ sym (length_numbers t.firsts (length all)),
+          length_push t.known name ∙ ap (λ k. k + 1) f.0 ∙ sym (length_push t.firsts (length all)),
           λ q. number_append t.known t.firsts name q (length all) f.0 ∙ ap (λ o. or_else o (cond (is_name q name) (Some (length all)) None)) (f.1 q) ∙ sym (place_append all name q),
         )
     go (Some i) h =
@@ -173,5 +158,5 @@ put_paired t name n e = go (place_in t.known name) refl
     go : (o : Option ℕ) → place_in t.known name ≡ o → length (put t name n).known ≡ length (put t name n).firsts
     go None h =
         subst (λ p. length p.known ≡ length p.firsts) (sym (put_absent t name n h))
-        (length_names t.known name ∙ ap (λ k. suc k) e ∙ sym (length_numbers t.firsts n))
+        (length_push t.known name ∙ ap (λ k. k + 1) e ∙ sym (length_push t.firsts n))
     go (Some i) h = subst (λ p. length p.known ≡ length p.firsts) (sym (put_there t name n i h)) e

@@ -24,7 +24,8 @@ use Rattle.hhbc_repo.specs.Shapes.{Shape, agree, after, behind, live_next, hands
 use Rattle.hhbc_repo.specs.Soundness.{MayThrowAt, Led, GoesWith, Laws, IsRoundBy, At}
 use Rattle.hhbc_repo.specs.ShapeAnalysis.{AreOfFlavours, AreLive, IsOfShape, HandsOn, entry_shape, by_shapes}
 use Rattle.hhbc_repo.proofs.Walking.{no_iter}
-use Rattle.hhbc_repo.proofs.ShapeTables.{at_last, from_map, to_map, shape_at, shape_there, Passes}
+use Rattle.hhbc_repo.proofs.Elements.{slice_last}
+use Rattle.hhbc_repo.proofs.ShapeTables.{from_map, to_map, shape_at, shape_there, Passes}
 
 -- what a code that takes and puts these slots may do to a frame with these flavours on its stack
 abbrev Does : List Flavour → List Flavour → Bool → Bool → List Flavour → Frame → Turn → Type 0
@@ -99,7 +100,7 @@ module _ (r : Linked) (keeps : Keeps r) where
       → (i : ℕ) × (slice_get (edges b p) i ≡ Some (Handler q))
   handler_edge b p c q at may is =
       let front : List Edge = next_edges (goes_on c) p ++ map (λ q. To q) (labels c) in
-      (length front, rw (at, may, is) (at_last front (Handler q)))
+      (length front, rw (at, may, is) (slice_last front (Handler q)))
 
   by_turn : (f : Frame) (s : Shape) (w : World) (b : Body) (c : Code) → body_at r f.body ≡ Some b → code_at b f.position ≡ Some c
       → iter_use c ≡ None → IsOfShape r f s → (t : Turn) → Does (pops c) (pushes c) (goes_on c) (throws c) s.stack f t → goes_with f s w t

@@ -1,5 +1,6 @@
 -- The shapes of the positions of a body, as a table, and what their checks say.
-use Rattle.std.proofs.Common.{◌≡◌, ◌⊎◌, inl, inr, ℕ, zero, suc, ◌<◌, refl, sym, ◌∙◌, ap, subst, Bool, true, false, ◌&&◌, nat_le, Option, Some, None, option_map, List, [], ◌∷◌, ◌++◌, map, flat_map, slice_get, length, cond, arith, ltb-true}
+use Rattle.std.proofs.Common.{◌≡◌, ◌⊎◌, inl, inr, ℕ, zero, suc, ◌<◌, refl, sym, ◌∙◌, ap, subst, Bool, true, false, nat_le, Option, Some, None, option_map, List, [], ◌∷◌, ◌++◌, map, flat_map, slice_get, length, cond, arith, ltb-true}
+use Rattle.std.proofs.lemmas.Bool.{and_parts}
 use Rattle.std.proofs.lemmas.Bool.Decides.{Decides-eqb}
 use Rattle.std.proofs.lemmas.Option.{slice_get-map}
 use Rattle.std.proofs.lemmas.List.{length-map, map-append}
@@ -14,6 +15,7 @@ use Rattle.hhbc_ops.specs.declared.words.Flavour.{Flavour}
 use Rattle.hhbc_ops.specs.declared.words.Flavour.TheVariants.{C, U}
 use Rattle.hhbc_repo.specs.Edges.{Edge, target, edges, edges_of}
 use Rattle.hhbc_repo.specs.Shapes.{Shape, Check, AllPass, given, given_after, given_by, handed, or_unled, shapes, edge_to, after, hands_on, agree, same_live, reaches, pops_of, slots_read_of, iter_use_of, all_within, all_cells, iter_checks, edge_checks, all_edge_checks, last_checks, checks, first_fault, fault_at}
+use Rattle.hhbc_repo.proofs.Elements.{slice_last}
 use Rattle.hhbc_repo.proofs.Walking.{shapes_length}
 
 -- an element of a list with one more behind it
@@ -26,10 +28,6 @@ last_or (z ∷ xs) x y (suc n) e = by_case (last_or xs x y n e)
     by_case : (slice_get xs n ≡ Some y) ⊎ ((n ≡ length xs) × (x ≡ y)) → (slice_get xs n ≡ Some y) ⊎ ((suc n ≡ suc (length xs)) × (x ≡ y))
     by_case (inl e) = inl e
     by_case (inr e) = inr (ap suc e.0, e.1)
-
-pub at_last : {A : Type 0} (xs : List A) (x : A) → slice_get (xs ++ x ∷ []) (length xs) ≡ Some x
-at_last [] x = refl
-at_last (y ∷ xs) x = at_last xs x
 
 pub before_last : {A : Type 0} (xs ys : List A) (n : ℕ) (x : A) → slice_get xs n ≡ Some x → slice_get (xs ++ ys) n ≡ Some x
 before_last [] ys n x e = absurd (cc)
@@ -67,7 +65,7 @@ shape_there b (suc n) p l = by_case (within p n l) (λ l. shape_there b n p l)
     by_case (inl l) ih = before_last (shapes b n) (given b n ∷ []) p (given b p) (ih l)
     by_case (inr e) ih =
         subst (λ p. slice_get (shapes b n ++ given b n ∷ []) p ≡ Some (given b p)) (sym e)
-        (subst (λ m. slice_get (shapes b n ++ given b n ∷ []) m ≡ Some (given b n)) (shapes_length b n) (at_last (shapes b n) (given b n)))
+        (subst (λ m. slice_get (shapes b n ++ given b n ∷ []) m ≡ Some (given b n)) (shapes_length b n) (slice_last (shapes b n) (given b n)))
 
 -- what the checks of a position say
 no_fault_passes : (cs : List Check) → first_fault cs ≡ None → AllPass cs
@@ -138,18 +136,14 @@ pub record Passes (b : Body) (p : ℕ) : Type 0 where
   pub iters : AllPass (iter_checks (iter_use_of (code_at b p)) (given b p).live)
   pub edge : (i : ℕ) (e : Edge) → slice_get (edges b p) i ≡ Some e → EdgePasses b (after b p (given b p) e) (target e)
 
-both : (a c : Bool) → (a && c) ≡ true → (a ≡ true) × (c ≡ true)
-both true c h = (refl, h)
-both false c h = absurd (cc)
-
 pub passes : (b : Body) (p : ℕ) → fault_at b p ≡ None → Passes b p
 passes b p e =
     let all = no_fault_passes (checks b p) e in
     let iters = iter_checks (iter_use_of (code_at b p)) (given b p).live in
     let on_edges = all_edge_checks b p (given b p) (edges b p) in
-    let slots = both (reaches (asserts_at b p) (length (given b p).stack)) _ all.0 in
-    let found = both (nat_le (length (pops_of (code_at b p))) (length (given b p).stack)) _ slots.1 in
-    let flavours = both (agree (pops_of (code_at b p)) (given b p).stack) _ all.1.0 in
+    let slots = and_parts (reaches (asserts_at b p) (length (given b p).stack)) _ all.0 in
+    let found = and_parts (nat_le (length (pops_of (code_at b p))) (length (given b p).stack)) _ slots.1 in
+    let flavours = and_parts (agree (pops_of (code_at b p)) (given b p).stack) _ all.1.0 in
     record {
       reach = slots.0;
       enough = found.0;

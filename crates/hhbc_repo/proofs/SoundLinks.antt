@@ -5,7 +5,6 @@ use Rattle.std.proofs.lemmas.Bool.{and_from, le-leb}
 use Rattle.std.proofs.lemmas.List.{append-nil, length-append, length-map}
 use Rattle.std.proofs.lemmas.Simd.{map-map}
 use Rattle.type_lattice.specs.Classes.{Tree, Forest}
-use Rattle.hhbc_repo.specs.declared.link_fault.LinkFault.{LinkFault}
 use Rattle.hhbc_repo.specs.declared.link_fault.LinkKind.TheVariants as kinds
 use Rattle.hhbc_repo.specs.declared.parts.BodyParts.{BodyParts}
 use Rattle.hhbc_repo.specs.declared.parts.ClassParts.{ClassParts}
@@ -17,7 +16,7 @@ use Rattle.hhbc_repo.specs.declared.body.Body.{Body}
 use Rattle.hhbc_repo.specs.Names.{distinct, distinct_from}
 use Rattle.hhbc_repo.specs.Bodies.{built_in_names, built_in_tree, tree_of, bodies}
 use Rattle.hhbc_repo.specs.Bodies as linked
-use Rattle.hhbc_repo.specs.LinkFaults.{Name, Whole, Place, class_names, parents, ancestors, properties, along, as_it_is, places, function_places, method_places, within, differ_from, count_faults, repeated_functions, each_class, class_checks, property_checks, member_checks, body_faults, first_class, faults, dollar, locals_of, labels_of, positions_of, limit_faults, stated_faults, position_faults}
+use Rattle.hhbc_repo.specs.LinkFaults.{Name, Whole, Place, class_names, parents, ancestors, properties, along, as_it_is, places, function_places, method_places, within, differ_from, count_faults, each_class, property_checks, member_checks, body_faults, first_class, faults}
 use Rattle.hhbc_repo.specs.LinkFaults as checks
 use Rattle.hhbc_repo.specs.LookUps.{Sound, function_names, method_names, property_names, all_properties, methods_in, total}
 use Rattle.hhbc_repo.specs.Resolved.{resolved, resolved_class, resolved_body, resolved_property}
@@ -25,7 +24,7 @@ use Rattle.hhbc_repo.proofs.DeclaredTree.{class_names_length, parents_forest}
 use Rattle.hhbc_repo.specs.Ranges.{few_iterators}
 use Rattle.hhbc_repo.proofs.BodiesPass.{all_pass, any_body, any_method}
 use Rattle.hhbc_repo.proofs.WithinLimits.{limits_hold}
-use Rattle.hhbc_repo.proofs.NoFaults.{empty_left, empty_right, fits_within, distinct_fewer, differ, functions_differ, properties_differ, classes_differ}
+use Rattle.hhbc_repo.proofs.NoFaults.{empty_left, empty_right, fits_within, distinct_fewer, differ, functions_differ, properties_differ, classes_differ, faultless, passed}
 
 -- ---- what is linked has the names and parents of its parts
 
@@ -106,41 +105,6 @@ all_properties_apart w n (c ∷ cs) h =
 
 -- ---- all of it
 
--- no list of checks has a fault
-pub record Passed (w : Whole) : Type 0 where
-  counts : count_faults w ≡ []
-  functions : repeated_functions [] w.functions ≡ []
-  classes : each_class (class_checks w) first_class w.classes ≡ []
-  members : each_class (member_checks w) first_class w.classes ≡ []
-  pub bodies : flat_map body_faults (places w) ≡ []
-
-pub passed : (w : Whole) → faults w ≡ [] → Passed w
-passed w h = record {
-  counts = empty_left (count_faults w) (functions ++ (classes ++ (members ++ rest))) h;
-  functions = empty_left functions (classes ++ (members ++ rest)) from_functions;
-  classes = empty_left classes (members ++ rest) from_classes;
-  members = empty_left members rest (empty_right classes (members ++ rest) from_classes);
-  bodies = empty_right members rest (empty_right classes (members ++ rest) from_classes);
-}
-  where
-    functions : List LinkFault
-    functions = repeated_functions [] w.functions
-
-    classes : List LinkFault
-    classes = each_class (class_checks w) first_class w.classes
-
-    members : List LinkFault
-    members = each_class (member_checks w) first_class w.classes
-
-    rest : List LinkFault
-    rest = flat_map body_faults (places w)
-
-    from_functions : functions ++ (classes ++ (members ++ rest)) ≡ []
-    from_functions = empty_right (count_faults w) (functions ++ (classes ++ (members ++ rest))) h
-
-    from_classes : classes ++ (members ++ rest) ≡ []
-    from_classes = empty_right functions (classes ++ (members ++ rest)) from_functions
-
 few_bodies : (w : Whole) → count_faults w ≡ [] → length (places w) ≤ 65535
 few_bodies w h = fits_within 65535 (length (places w)) [] (codes "functions") (empty_left (within 65535 (length (places w)) [] (codes "functions")) (within 16384 (length w.classes) [] (codes "classes")) h)
 
@@ -151,10 +115,7 @@ few_classes w h = fits_within 16384 (length w.classes) [] (codes "classes") (emp
 iterators_fit : (w : Whole) (b : BodyParts) (owner : Name) → body_faults (record { whole = w; body = b; owner = owner }) ≡ [] → few_iterators (resolved_body w b) ≡ true
 iterators_fit w b owner h =
     let p : Place = record { whole = w; body = b; owner = owner } in
-    let locals = differ_from kinds.DuplicateName owner dollar [] (locals_of b) in
-    let labels = differ_from kinds.DuplicateLabel owner as_it_is [] (labels_of b) in
-    let limits = empty_left (limit_faults p) (locals ++ (labels ++ (stated_faults w owner b.stated ++ flat_map (position_faults p) (positions_of b)))) h in
-    le-leb b.iters 32 (limits_hold p limits).iters
+    le-leb b.iters 32 (limits_hold p (faultless p h).limits).iters
 
 pub sound_links : (w : Whole) → total (properties w) < 2 ^ 32 → faults w ≡ [] → Sound (resolved w)
 sound_links w few h =

@@ -135,9 +135,6 @@ zeros_bytes : (n : ℕ) → list_all is_byte (replicate n 0) ≡ true
 zeros_bytes zero = refl
 zeros_bytes (suc n) = zeros_bytes n
 
-same_bytes : (xs : List ℕ) → bytes_eq xs xs ≡ true
-same_bytes xs = (bytes_eq-Decides xs xs).1 refl
-
 short_passes : (s : List ℕ) → list_all is_byte s ≡ true → nat_le (length s) 32 ≡ true → short_in_range (record { len = length s; bytes = s ++ replicate (32 - length s) 0 }) ≡ true
 short_passes s b h =
     let zeros : List ℕ = replicate (32 - length s) 0 in
@@ -147,7 +144,7 @@ short_passes s b h =
     and_from (nat_le (length s) 32) ((length (s ++ zeros) == 32) && (list_all is_byte (s ++ zeros) && bytes_eq (drop (length s) (s ++ zeros)) zeros)) h
     (and_from (length (s ++ zeros) == 32) (list_all is_byte (s ++ zeros) && bytes_eq (drop (length s) (s ++ zeros)) zeros) (eq-eqb (length (s ++ zeros)) 32 (omega (arith, l, r, k)))
     (and_from (list_all is_byte (s ++ zeros)) (bytes_eq (drop (length s) (s ++ zeros)) zeros) (all_both is_byte s zeros b (zeros_bytes (32 - length s)))
-    (subst (λ (l : List ℕ). bytes_eq l zeros ≡ true) (sym (drop-append_seam s zeros)) (same_bytes zeros))))
+    (subst (λ (l : List ℕ). bytes_eq l zeros ≡ true) (sym (drop-append_seam s zeros)) ((bytes_eq-Decides zeros zeros).1 refl))))
 
 str_passes : (s : List ℕ) → list_all is_byte s && nat_le (length s) 32 ≡ true → str_in_range (str_part s) ≡ true
 str_passes s h =
@@ -544,7 +541,7 @@ atoms_fit xs f h =
     and_from (type_in_range t) (bytes_eq (classes_of t) (numbers 0 (length names)) && list_all is_word names)
     (from_range t (from_in_range 0 xs never f never_in_range))
     (and_from (bytes_eq (classes_of t) (numbers 0 (length names))) (list_all is_word names)
-    (ap (λ l. bytes_eq l (numbers 0 (length names))) (from_classes 0 0 xs never f h never_blank) ∙ same_bytes (numbers 0 (length names)))
+    (ap (λ l. bytes_eq l (numbers 0 (length names))) (from_classes 0 0 xs never f h never_blank) ∙ (bytes_eq-Decides (numbers 0 (length names)) (numbers 0 (length names))).1 refl)
     (from_words xs f))
 
 written_fits : (ts : List Token) (w : WrittenType) → AWrittenType ts w → AreProper ts → type_fits (type_of w) ≡ true

@@ -1,15 +1,13 @@
 -- Types whose classes are numbers of a repository's, with the names of these classes: they fit, pass the checks of linking and link to
 -- the same types. Proper types are such.
-use Rattle.std.proofs.Common.{◌≡◌, ◌≤◌, ◌<◌, ◌^◌, ℕ, zero, suc, ◌+◌, ◌-◌, ℤ, pos, negsuc, Bool, true, false, not, ◌&&◌, ◌||◌, ◌==◌, nat_le, nat_lt, List, [], ◌∷◌, ◌++◌, map, flat_map, length, drop, replicate, slice_get, Option, Some, None, option_map, is_some, All, refl, sym, ap, ap₂, subst, ◌∙◌, arith, append_assoc, length-append, cond}
-use Rattle.std.specs.Prelude.{FitsSigned}
-use Rattle.std.proofs.Common.{w64}
+use Rattle.std.proofs.Common.{◌≡◌, ◌<◌, ◌^◌, ℕ, zero, suc, ◌+◌, ◌-◌, pos, negsuc, Bool, true, false, not, ◌&&◌, ◌||◌, ◌==◌, nat_le, nat_lt, List, [], ◌∷◌, ◌++◌, map, flat_map, length, drop, replicate, Option, Some, None, option_map, is_some, All, refl, sym, ap, ap₂, ◌∙◌, arith, append_assoc, length-append, cond}
 use Rattle.std.specs.List.{list_all}
 use Rattle.std.specs.Str.{bytes_eq}
-use Rattle.std.proofs.lemmas.Bool.{and_from, and_parts, eq-eqb, le-leb, leb-true}
+use Rattle.std.proofs.lemmas.Bool.{and_from, and_parts, or_parts, not-true, eq-eqb, le-leb, leb-true}
 use Rattle.std.proofs.lemmas.List.{append-nil, length-map}
 use Rattle.std.proofs.lemmas.List.Folds.{list_any-append}
+use Rattle.std.proofs.lemmas.Option.{slice_get-map}
 use Rattle.std.proofs.lemmas.Slice.Eq.{bytes_eq-Decides}
-use Rattle.hhas_lex.specs.Shape.{is_int64}
 use Rattle.hhas_lex.specs.Spelling.{is_byte, is_word}
 use Rattle.type_lattice.specs.declared.types.IntPart.{IntPart}
 use Rattle.type_lattice.specs.declared.types.IntPart.TheVariants as ints
@@ -23,7 +21,7 @@ use Rattle.type_lattice.specs.declared.types.HType.{HType}
 use Rattle.type_lattice.specs.Classes.{Tree}
 use Rattle.type_lattice.specs.Never.{no_objs}
 use Rattle.type_lattice.specs.Proper.{ProperInt, ProperShort, ProperStr, ProperObj, ProperLeaf, ProperKey, ProperVec, ProperDict, ProperKeyset, IsProper}
-use Rattle.type_lattice.specs.TypeText.{named, class_name}
+use Rattle.type_lattice.specs.TypeText.{class_name}
 use Rattle.hhbc_repo.specs.Bodies.{numbers}
 use Rattle.hhbc_repo.specs.LinkFaults.{Name, Whole, is_name, names, place_in, class_names, class_of, known, class_faults, type_faults}
 use Rattle.hhbc_repo.specs.Names.{distinct, distinct_from}
@@ -32,7 +30,7 @@ use Rattle.hhbc_repo.specs.TypeFits.{short_in_range, int_in_range, str_in_range,
 use Rattle.hhbc_repo.specs.WrittenTypes.{obj_placed, leaf_placed, entry_placed, canonical_type}
 use Rattle.hhbc_repo.specs.WrittenTypes as written
 use Rattle.hhbc_repo.specs.Within.{type_within}
-use Rattle.hhbc_repo.proofs.NoFaults.{not_false}
+use Rattle.hhbc_repo.proofs.Elements.{slice_seam}
 use Rattle.hhbc_repo.proofs.Numbering.{numbers_on}
 use Rattle.hhbc_repo.proofs.NumbersPut.{place_step}
 use Rattle.hhbc_repo.proofs.PartsOfTypes.{there_same, key_kept, keyset_kept, classes_named, obj_count, vec_count}
@@ -47,28 +45,20 @@ word_at (x ∷ xs) (suc n) h k =
     let l = leb-true (suc (suc n)) (suc (length xs)) k in
     word_at xs n (and_parts (is_word x) (list_all is_word xs) h).1 (le-leb (suc n) (length xs) (omega (arith, l)))
 
-own_name : (name : Name) → is_name name name ≡ true
-own_name [] = refl
-own_name (b ∷ bs) = grind (arith, own_name bs)
-
-neither : (a b : Bool) → a || (b || false) ≡ false → (a ≡ false) × (b ≡ false)
-neither true b h = absurd (cc)
-neither false true h = absurd (cc)
-neither false false h = (refl, refl)
-
 -- where names differ, each is found at its own place, and not before
 numbered_place : (before all : List Name) (n : ℕ) → distinct_from before all ≡ true → n < length all
     → (names before (class_name all n) ≡ false) × (place_in all (class_name all n) ≡ Some n)
 numbered_place before [] n h k = absurd (omega arith)
 numbered_place before (x ∷ xs) zero h k =
     let p = and_parts (not (names before x)) (distinct_from (before ++ x ∷ []) xs) h in
-    (not_false (names before x) p.0, place_step x xs x ∙ ap (λ (b : Bool). cond b (Some 0) (option_map (λ k. suc k) (place_in xs x))) (own_name x))
+    (not-true (names before x) p.0, place_step x xs x ∙ ap (λ (b : Bool). cond b (Some 0) (option_map (λ k. suc k) (place_in xs x))) ((bytes_eq-Decides x x).1 refl))
 numbered_place before (x ∷ xs) (suc n) h k =
     let name = class_name xs n in
     let p = and_parts (not (names before x)) (distinct_from (before ++ x ∷ []) xs) h in
     let q = numbered_place (before ++ x ∷ []) xs n p.1 (omega arith) in
-    let r = neither (names before name) (is_name name x) (sym (list_any-append (is_name name) before (x ∷ [])) ∙ q.0) in
-    (r.0, place_step x xs name ∙ ap₂ (λ (b : Bool) (o : Option ℕ). cond b (Some 0) (option_map (λ k. suc k) o)) r.1 q.1)
+    let r = or_parts (names before name) (is_name name x || false) (sym (list_any-append (is_name name) before (x ∷ [])) ∙ q.0) in
+    let other = (or_parts (is_name name x) false r.1).0 in
+    (r.0, place_step x xs name ∙ ap₂ (λ (b : Bool) (o : Option ℕ). cond b (Some 0) (option_map (λ k. suc k) o)) other q.1)
 
 pub place_of_number : (all : List Name) (n : ℕ) → distinct all ≡ true → nat_lt n (length all) ≡ true → place_in all (class_name all n) ≡ Some n
 place_of_number all n h k = (numbered_place [] all n h (leb-true (suc n) (length all) k)).1
@@ -137,10 +127,6 @@ module _ (all : List Name) where
 
 -- ---- in a repository whose classes have different names
 
-name_there : (all : List Name) (front rest : List ℕ) (c : ℕ) → slice_get (map (class_name all) (front ++ c ∷ rest)) (length front) ≡ Some (class_name all c)
-name_there all [] rest c = refl
-name_there all (x ∷ front) rest c = name_there all front rest c
-
 module _ (w : Whole) (apart : distinct (class_names w) ≡ true) where
   abbrev listed : ℕ → Bool
   listed c = nat_lt c (length (class_names w))
@@ -160,7 +146,7 @@ module _ (w : Whole) (apart : distinct (class_names w) ≡ true) where
   one_forth : (all front rest : List ℕ) (c n : ℕ) → all ≡ front ++ c ∷ rest → n ≡ length front → listed c ≡ true → class_at w (map to_name all) n ≡ c
   one_forth all front rest c n e l h =
       ap₂ (λ (xs : List ℕ) (m : ℕ). class_at w (map to_name xs) m) e l
-      ∙ ap (named_class w) (name_there (class_names w) front rest c) ∙ ap or_zero (number_forth c h)
+      ∙ ap (named_class w) (slice_get-map to_name (front ++ c ∷ rest) (length front) ∙ ap (option_map to_name) (slice_seam front c rest)) ∙ ap or_zero (number_forth c h)
 
   obj_forth : (all front rest : List ℕ) (n : ℕ) (o : ObjPart) → all ≡ front ++ (obj_classes o ++ rest) → n ≡ length front → list_all listed (obj_classes o) ≡ true
       → obj_with (class_at w (map to_name all)) (obj_placed n o) ≡ o

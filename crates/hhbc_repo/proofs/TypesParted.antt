@@ -28,6 +28,7 @@ use Rattle.hhbc_repo.specs.WrittenTypes.{atom, bool_atoms, int_atoms, str_atoms,
 use Rattle.hhbc_repo.specs.WrittenTypes as written
 use Rattle.hhbc_repo.specs.declared.parts.TypeParts.{TypeParts}
 use Rattle.hhbc_repo.proofs.AtomsSpelled.{Segment, segments, switch_segment, bools_segment, ints_segment, strs_segment, objs_segment, short_fits, atom_fits, atom_spelled, atom_inner, Climbs, climbs_both}
+use Rattle.hhbc_repo.proofs.Elements.{same_first, same_rest}
 use Rattle.hhbc_repo.proofs.InnerTokens.{Inner, inner_word, inner_both, inner_bracketed}
 use Rattle.hhbc_repo.proofs.LeavesWritten.{leaf_written, key_written, leaf_is_cell, key_is_whole, first_number}
 use Rattle.hhbc_repo.proofs.Numbering.{numbers_length}
@@ -299,12 +300,6 @@ keyset_part n (Some k) t range e = go (whole_key k) refl
 
 -- ---- classes numbered as they come, and their names
 
-later_numbers : (c n : ℕ) (xs ys : List ℕ) → c ∷ xs ≡ n ∷ ys → xs ≡ ys
-later_numbers c n xs ys h = cc
-
-first_is : (c n : ℕ) (xs ys : List ℕ) → c ∷ xs ≡ n ∷ ys → c ≡ n
-first_is c n xs ys h = cc
-
 -- the numbers in front, and those behind
 numbers_parted : (n : ℕ) (xs ys : List ℕ) → xs ++ ys ≡ numbers n (length (xs ++ ys)) → (xs ≡ numbers n (length xs)) × (ys ≡ numbers (n + length xs) (length ys))
 numbers_parted n [] ys h =
@@ -312,9 +307,9 @@ numbers_parted n [] ys h =
     (refl, h ∙ ap (λ (m : ℕ). numbers m (length ys)) same)
 numbers_parted n (x ∷ xs) ys h =
     let rest = numbers (suc n) (length (xs ++ ys)) in
-    let p = numbers_parted (suc n) xs ys (later_numbers x n (xs ++ ys) rest h) in
+    let p = numbers_parted (suc n) xs ys (same_rest x n (xs ++ ys) rest h) in
     let same : suc n + length xs ≡ n + suc (length xs) = omega arith in
-    (ap₂ (λ (m : ℕ) (l : List ℕ). m ∷ l) (first_is x n (xs ++ ys) rest h) p.0, p.1 ∙ ap (λ (m : ℕ). numbers m (length ys)) same)
+    (ap₂ (λ (m : ℕ) (l : List ℕ). m ∷ l) (same_first x n (xs ++ ys) rest h) p.0, p.1 ∙ ap (λ (m : ℕ). numbers m (length ys)) same)
 
 -- by their numbers, the names of a list are that list
 names_later : (x : Name) (xs : List Name) (n k : ℕ) → map (class_name (x ∷ xs)) (numbers (suc n) k) ≡ map (class_name xs) (numbers n k)

@@ -1,7 +1,7 @@
 -- The written form of a type or constraint that fits stands for it, and its tokens spell it.
 use Rattle.std.proofs.Common.{◌≡◌, ℕ, suc, Bool, true, false, not, if◌then◌else◌, List, [], ◌∷◌, ◌++◌, map, Option, Some, None, refl, sym, ap, ap₂, subst, ◌∙◌}
 use Rattle.std.specs.List.{list_all, flat_map}
-use Rattle.std.proofs.lemmas.Bool.{and_from, and_parts}
+use Rattle.std.proofs.lemmas.Bool.{and_from, and_parts, not-true}
 use Rattle.hhas_lex.specs.Tokens.{Token}
 use Rattle.type_lattice.specs.declared.types.IntPart.{IntPart}
 use Rattle.type_lattice.specs.declared.types.IntPart.TheVariants as ints
@@ -24,7 +24,6 @@ use Rattle.hhbc_repo.specs.declared.parts.TypeParts.{TypeParts}
 use Rattle.hhbc_repo.proofs.AtomsSpelled.{AllSpelled, separated_spelled, Climbs, climbs_ascend}
 use Rattle.hhbc_repo.proofs.InnerTokens.{Inner, AllInner, inner_word, inner_joined, inner_both}
 use Rattle.hhbc_repo.proofs.LeavesWritten.{ints_any, strs_any, objs_any, leaf_is_cell, key_is_whole}
-use Rattle.hhbc_repo.proofs.NoFaults.{not_false}
 use Rattle.hhbc_repo.proofs.SpelledTypes.{all_both}
 use Rattle.hhbc_repo.proofs.TypesParted.{AllFit, TypePart, TypeFits, type_facts, named_classes, atoms_of, type_part, plains_both}
 
@@ -180,7 +179,7 @@ broad t h =
     let k7 = and_parts (where_there whole_entry t.dict) _ k6.1 in
     let k8 = and_parts (where_there whole_key t.keyset) (not (is_never t)) k7.1 in
     record {
-      uninit = not_false t.uninit k1.0;
+      uninit = not-true t.uninit k1.0;
       bools = k2.0;
       int = k3.0;
       str = k4.0;
@@ -188,7 +187,7 @@ broad t h =
       vec = k6.0;
       dict = k7.0;
       keyset = k8.0;
-      there = not_false (is_never t) k8.1;
+      there = not-true (is_never t) k8.1;
     }
 
 all_plain : (names : List Name) (t : HType) → Broad t → atoms_of names t ≡ plains (plain_atoms names t)

@@ -1,6 +1,8 @@
 -- A repository of the second form keeps to its shapes exactly where no code and no assertion reaches below the stack.
 use Rattle.std.proofs.Common.{◌≡◌, ◌≢◌, ◌↔◌, ℕ, zero, suc, ◌+◌, ◌-◌, ◌*◌, ◌<◌, ◌≤◌, refl, sym, ◌∙◌, ap, subst, Bool, true, false, ◌&&◌, ◌==◌, nat_le, nat_lt, Option, Some, None, List, [], ◌∷◌, ◌++◌, flat_map, slice_get, length, drop, cond, arith, length-append, length-drop, mul-le-mul, le-leb, ltb-true, ltb-false}
+use Rattle.std.proofs.lemmas.Bool.{and_from, and_parts, false_from_ne_true}
 use Rattle.std.proofs.lemmas.Bool.Decides.{Decides-eqb}
+use Rattle.std.proofs.lemmas.List.{append-nil}
 use Rattle.hhbc_ops.specs.declared.op.Op.{Op}
 use Rattle.hhbc_ops.specs.declared.op.Op.TheVariants as ops
 use Rattle.hhbc_repo.specs.declared.code.Code.{Code}
@@ -19,10 +21,6 @@ use Rattle.hhbc_repo.specs.Form.{FitsOperands, FitsCode, FitsPosition, FitPositi
 use Rattle.hhbc_repo.specs.Shapes.{Shape, Check, AllPass, ShapeKind, Underflow, WrongFlavour, TooManyCells, given, given_after, given_by, shapes, edge_to, after, behind, agree, same_live, edge_checks, all_edge_checks, last_checks, first_fault, fault_at, deepest, cells, reaches, pops_of, slots_read_of, iter_use_of, all_within, all_cells, iter_checks, Types}
 use Rattle.hhbc_repo.specs.Walks.{walks, walks_asserted, TypesWhereItWalks, TypesWhereAssertedWalks}
 use Rattle.hhbc_repo.proofs.FirstForm.{only, second_is}
-
-is_false : (t : Bool) → (t ≡ true → ⊥) → t ≡ false
-is_false true h = absurd (h refl)
-is_false false h = refl
 
 -- codes of the first form name no label
 op_labels : (count : ℕ) (op : Op) (is : List Imm) → FitsOperands count op is → flat_map labels_in is ≡ []
@@ -69,10 +67,6 @@ no_handler : (t : Bool) (b : Body) (p : ℕ) → b.regions ≡ [] → handler_ed
 no_handler true b p e = rw e refl
 no_handler false b p e = refl
 
-append_none : {A : Type 0} (xs : List A) → xs ++ [] ≡ xs
-append_none [] = refl
-append_none (x ∷ xs) = ap (λ ys. x ∷ ys) (append_none xs)
-
 pub code_is : (b : Body) (p : ℕ) (q : Position) → slice_get b.positions p ≡ Some q → code_at b p ≡ Some q.code
 code_is b p q e = rw e refl
 
@@ -82,7 +76,7 @@ edges_are count b p None c g e h = absurd (cc)
 edges_are count b p (Some d) c g e h =
     let k : c ≡ d = cc in
     subst (λ (c : Code). edges_of (Some d) b p ≡ next_edges (goes_on c) p) (sym k)
-    (rw (no_labels count d (subst (λ (c : Code). FitsCode count c) k h), no_handler (throws d) b p g) (append_none (next_edges (goes_on d) p ++ []) ∙ append_none (next_edges (goes_on d) p)))
+    (rw (no_labels count d (subst (λ (c : Code). FitsCode count c) k h), no_handler (throws d) b p g) (append-nil (next_edges (goes_on d) p ++ []) ∙ append-nil (next_edges (goes_on d) p)))
 
 -- the positions of the first form
 pub fits_at : (count : ℕ) (ps : List Position) (p : ℕ) (q : Position) → FitPositions count ps → slice_get ps p ≡ Some q → FitsPosition count q
@@ -160,7 +154,7 @@ shapes_length b (suc n) =
     omega (arith, e, f)
 
 edge_elsewhere : (t : Bool) (j q : ℕ) → j < q → edge_to (suc q) (next_edges t j) ≡ None
-edge_elsewhere true j q l = rw (is_false (suc j == suc q) (λ e. let f = (Decides-eqb (suc j) (suc q)).0 e in absurd (omega arith))) refl
+edge_elsewhere true j q l = rw (false_from_ne_true (suc j == suc q) (λ e. let f = (Decides-eqb (suc j) (suc q)).0 e in absurd (omega arith))) refl
 edge_elsewhere false j q l = refl
 
 edge_here : (q : ℕ) → edge_to (suc q) (next_edges true q) ≡ Some (Next (suc q))
@@ -407,25 +401,18 @@ module _ (b : Body) (form : IsSecondBody b) where
       subst (λ (s : Shape). length s.stack ≡ length (pushes x.code) + (length (given b p).stack - length (pops x.code))) (sym g)
       (stack_behind x.code (given b p))
 
-  both : (a c : Bool) → (a && c) ≡ true → (a ≡ true) × (c ≡ true)
-  both true c h = (refl, h)
-  both false c h = absurd (cc)
-
-  join : (a c : Bool) → a ≡ true → c ≡ true → (a && c) ≡ true
-  join a c h k = rw (h, k) refl
-
   from_walks : (p : ℕ) (ps : List Position) → From p ps → walks_asserted (length (given b p).stack) ps ≡ true
       → (i : ℕ) → i < length ps → fault_at b (p + i) ≡ None
   from_walks p [] h w i l = absurd (omega arith)
   from_walks p (x ∷ ps) h w zero l =
       let c = h.count in
       let e : p + 0 ≡ p = omega arith in
-      subst (λ n. fault_at b n ≡ None) (sym e) ((decides p x (first_of p x ps h) (omega (arith, c))).0 (both _ _ w).0)
+      subst (λ n. fault_at b n ≡ None) (sym e) ((decides p x (first_of p x ps h) (omega (arith, c))).0 (and_parts _ _ w).0)
   from_walks p (x ∷ []) h w (suc i) l = absurd (omega arith)
   from_walks p (x ∷ y ∷ ps) h w (suc i) l =
       let e : suc p + i ≡ p + suc i = omega arith in
       let k : walks_asserted (length (given b (suc p)).stack) (y ∷ ps) ≡ true =
-      subst (λ d. walks_asserted d (y ∷ ps) ≡ true) (sym (depth_next p x y ps h)) (both (reaches x.asserts (length (given b p).stack) && nat_le (length (pops x.code)) (length (given b p).stack)) _ w).1 in
+      subst (λ d. walks_asserted d (y ∷ ps) ≡ true) (sym (depth_next p x y ps h)) (and_parts (reaches x.asserts (length (given b p).stack) && nat_le (length (pops x.code)) (length (given b p).stack)) _ w).1 in
       subst (λ n. fault_at b n ≡ None) e (from_walks (suc p) (y ∷ ps) (tail_of p x (y ∷ ps) h) k i (omega arith))
 
   found : (p : ℕ) (x : Position) (ps : List Position) → From p (x ∷ ps) → ((i : ℕ) → i < length (x ∷ ps) → fault_at b (p + i) ≡ None)
@@ -438,11 +425,11 @@ module _ (b : Body) (form : IsSecondBody b) where
   to_walks : (p : ℕ) (ps : List Position) → From p ps → ((i : ℕ) → i < length ps → fault_at b (p + i) ≡ None)
       → walks_asserted (length (given b p).stack) ps ≡ true
   to_walks p [] h w = refl
-  to_walks p (x ∷ []) h w = join _ _ (found p x [] h w) refl
+  to_walks p (x ∷ []) h w = and_from _ _ (found p x [] h w) refl
   to_walks p (x ∷ y ∷ ps) h w =
       let t = to_walks (suc p) (y ∷ ps) (tail_of p x (y ∷ ps) h)
       (λ i l. let e : p + suc i ≡ suc p + i = omega arith in subst (λ n. fault_at b n ≡ None) e (w (suc i) (omega arith))) in
-      join _ _ (found p x (y ∷ ps) h w) (subst (λ d. walks_asserted d (y ∷ ps) ≡ true) (depth_next p x y ps h) t)
+      and_from _ _ (found p x (y ∷ ps) h w) (subst (λ d. walks_asserted d (y ∷ ps) ≡ true) (depth_next p x y ps h) t)
 
   whole : From 0 b.positions
   whole = record {

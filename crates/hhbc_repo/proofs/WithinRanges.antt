@@ -1,9 +1,9 @@
 -- What a body of parts that fit links to keeps to its ranges, where no check fails.
-use Rattle.std.proofs.Common.{◌≡◌, ◌≤◌, ℕ, suc, ◌+◌, Bool, true, false, not, ◌&&◌, ◌||◌, nat_le, nat_lt, List, [], ◌∷◌, ◌++◌, map, flat_map, length, slice_get, Option, Some, None, option_map, is_some, refl, sym, ap, ap₂, ◌∙◌, arith, append_assoc, length-append}
+use Rattle.std.proofs.Common.{◌≡◌, ◌≤◌, ℕ, suc, ◌+◌, Bool, true, not, ◌&&◌, ◌||◌, nat_le, nat_lt, List, [], ◌∷◌, ◌++◌, map, flat_map, length, Option, Some, None, option_map, is_some, refl, sym, ap, ap₂, ◌∙◌, arith, append_assoc, length-append}
 use Rattle.std.specs.List.{list_all, list_any}
 use Rattle.std.specs.Str.{bytes_eq}
 use Rattle.std.proofs.lemmas.Bool.{and_from, and_parts, le-leb}
-use Rattle.std.proofs.lemmas.List.{map-append}
+use Rattle.std.proofs.lemmas.List.{length-map, map-append}
 use Rattle.std.proofs.lemmas.Slice.Eq.{bytes_eq-Decides}
 use Rattle.hhas_lex.specs.Spelling.{is_word}
 use Rattle.hhbc_ops.specs.declared.op.Op.{Op}
@@ -39,21 +39,22 @@ use Rattle.hhbc_repo.specs.declared.link_fault.LinkKind.TheVariants as reasons
 use Rattle.hhbc_repo.specs.Bodies.{bodies, numbers}
 use Rattle.hhbc_repo.specs.declared.parts.ClassParts.{ClassParts}
 use Rattle.hhbc_repo.specs.CodeSyntax as parts
-use Rattle.hhbc_repo.specs.LinkFaults.{Name, Whole, Place, names, place_in, as_it_is, dollar, class_names, class_of, known, differ_from, locals_of, labels_of, position_in, positions_of, local_faults, class_faults, type_faults, stated_faults, assert_faults, key_local, operand_faults, instruction_faults, key_faults, base_faults, last_key, code_faults, position_faults, limit_faults, body_faults, faults}
+use Rattle.hhbc_repo.specs.LinkFaults.{Name, Whole, Place, names, place_in, dollar, class_names, class_of, known, locals_of, position_in, local_faults, class_faults, type_faults, stated_faults, assert_faults, key_local, operand_faults, instruction_faults, key_faults, base_faults, last_key, code_faults, position_faults, body_faults, faults}
 use Rattle.hhbc_repo.specs.Names.{distinct}
 use Rattle.hhbc_repo.specs.Resolved.{or_zero, named_class, class_at, obj_with, leaf_with, entry_with, type_with, resolved_type, local_number, label_number, class_number, resolved_assert, resolved_arm, resolved_operand, resolved_base, resolved_key, resolved_final, resolved_code, resolved_position, resolved_item, resolved_body, resolved}
 use Rattle.hhbc_repo.specs.TypeFits.{int_in_range, str_in_range, leaf_in_range, key_in_range, entry_in_range, where_there, type_in_range, obj_classes, vec_classes, dict_classes, classes_of, type_fits, agree, no_one_int, no_one_str, no_one_class, is_constraint, constraint_fits}
-use Rattle.hhbc_repo.specs.Fits.{is_index, is_label, has_no_text, has_text, arm_fits, text_arm_fits, arms_fit, text_arms_fit, operand_fits, operands_fit, base_fits, key_fits, query_key_fits, set_key_fits, change_key_fits, final_fits, code_fits, assert_fits, position_fits, item_fits, nests, body_fits, const_fits, property_fits, class_fits, parts_fit}
+use Rattle.hhbc_repo.specs.Fits.{is_index, is_label, has_no_text, has_text, arm_fits, text_arm_fits, arms_fit, text_arms_fit, operand_fits, operands_fit, base_fits, key_fits, query_key_fits, set_key_fits, change_key_fits, final_fits, code_fits, assert_fits, position_fits, item_fits, body_fits, class_fits, parts_fit}
 use Rattle.hhbc_repo.specs.Ranges.{few_iterators}
 use Rattle.hhbc_repo.specs.Within.{Bounds, bounds_of, type_within, constraint_within, target_within, arm_within, text_arm_within, arms_within, text_arms_within, local_within, operand_within, operands_within, base_within, key_within, appends, is_nullsafe, is_query, query_key_within, set_key_within, change_key_within, final_within, code_within, assert_within, position_within, in_limits, body_within}
-use Rattle.hhbc_repo.proofs.NoFaults.{empty_left, empty_right, passes, differ, constant_class, method_class}
-use Rattle.hhbc_repo.proofs.CanonicalItems.{label_among}
+use Rattle.hhbc_repo.proofs.NoFaults.{empty_left, empty_right, passes, differ, constant_class, method_class, faultless, passed}
+use Rattle.hhbc_repo.proofs.CanonicalItems.{label_among, linked_positions}
+use Rattle.hhbc_repo.proofs.Elements.{slice_seam}
 use Rattle.hhbc_repo.proofs.Numbered.{place-within}
 use Rattle.hhbc_repo.proofs.NumbersPut.{absent_names}
 use Rattle.hhbc_repo.proofs.PartsOfTypes.{there_same}
+use Rattle.hhbc_repo.proofs.PartsThatFit.{body_facts, class_facts}
 use Rattle.hhbc_repo.proofs.SpelledTypes.{all_both}
 use Rattle.hhbc_repo.proofs.BodiesPass.{all_pass}
-use Rattle.hhbc_repo.proofs.SoundLinks.{passed}
 use Rattle.hhbc_repo.proofs.WithinLimits.{limits_hold}
 
 -- ---- names that are there
@@ -75,12 +76,7 @@ class_there w owner name h = go (class_of w name) refl (passes (is_some (class_o
 -- ---- labels
 
 positions_linked : (w : Whole) (b : BodyParts) (is : List ItemParts) → length (flat_map (resolved_item w b) is) ≡ length (flat_map position_in is)
-positions_linked w b [] = refl
-positions_linked w b (items.Label other ∷ more) = positions_linked w b more
-positions_linked w b (items.Position p ∷ more) = ap suc (positions_linked w b more)
-positions_linked w b (items.Try ∷ more) = positions_linked w b more
-positions_linked w b (items.Catch ∷ more) = positions_linked w b more
-positions_linked w b (items.End ∷ more) = positions_linked w b more
+positions_linked w b is = ap length (linked_positions w b is) ∙ length-map (flat_map position_in is) (resolved_position w b)
 
 -- ---- types with classes numbered anew
 
@@ -168,10 +164,6 @@ module _ (f : ℕ → ℕ) where
 
 -- ---- in a body of a repository
 
-seam : (front : List Name) (n : Name) (more : List Name) → slice_get (front ++ n ∷ more) (length front) ≡ Some n
-seam [] n more = refl
-seam (x ∷ front) n more = seam front n more
-
 module _ (w : Whole) (owner : Name) where
   abbrev class_count : ℕ
   class_count = length (class_names w)
@@ -182,7 +174,7 @@ module _ (w : Whole) (owner : Name) where
   listed_within front (n ∷ more) h =
       let here = class_at w (front ++ n ∷ more) (length front) in
       let later = map (class_at w (front ++ n ∷ more)) (numbers (suc (length front)) (length more)) in
-      let first : nat_lt here class_count ≡ true = ap (λ (o : Option Name). nat_lt (named_class w o) class_count) (seam front n more) ∙ class_there w owner n (empty_left (class_faults w owner n) (flat_map (class_faults w owner) more) h) in
+      let first : nat_lt here class_count ≡ true = ap (λ (o : Option Name). nat_lt (named_class w o) class_count) (slice_seam front n more) ∙ class_there w owner n (empty_left (class_faults w owner n) (flat_map (class_faults w owner) more) h) in
       let next = listed_within (front ++ n ∷ []) more (empty_right (class_faults w owner n) (flat_map (class_faults w owner) more) h) in
       let longer : length (front ++ n ∷ []) ≡ suc (length front) = let k = length-append front (n ∷ []) in omega (arith, k) in
       let rest : list_all (λ c. nat_lt c class_count) later ≡ true =
@@ -439,43 +431,14 @@ module _ (w : Whole) (b : BodyParts) (owner : Name) where
 
 -- ---- bodies
 
--- what a body that fits is made of
-record BodyFits (b : BodyParts) : Type 0 where
-  name : is_word b.name ≡ true
-  locals : list_all is_word (locals_of b) ≡ true
-  stated : where_there type_fits b.stated ≡ true
-  items : list_all item_fits b.items ≡ true
-
-fits_parts : (b : BodyParts) → body_fits b ≡ true → BodyFits b
-fits_parts b h =
-    let params = list_all is_word b.params in
-    let locals = list_all is_word b.locals in
-    let few = nat_le b.iters 65535 in
-    let stated = where_there type_fits b.stated in
-    let closed = nests b.items [] false in
-    let all = list_all item_fits b.items in
-    let x = and_parts (is_word b.name) (params && (locals && (few && (stated && (closed && all))))) h in
-    let y = and_parts params (locals && (few && (stated && (closed && all)))) x.1 in
-    let z = and_parts locals (few && (stated && (closed && all))) y.1 in
-    let u = and_parts few (stated && (closed && all)) z.1 in
-    let v = and_parts stated (closed && all) u.1 in
-    record { name = x.0; locals = all_both is_word b.params b.locals y.0 z.0; stated = v.0; items = (and_parts closed all v.1).1 }
-
 pub body_links : (w : Whole) (b : BodyParts) (owner : Name) → body_fits b ≡ true → body_faults (record { whole = w; body = b; owner = owner }) ≡ [] → body_within (length (class_names w)) (resolved_body w b) ≡ true
 body_links w b owner h e =
     let p : Place = record { whole = w; body = b; owner = owner } in
     let classes = length (class_names w) in
     let c = resolved_body w b in
-    let f = fits_parts b h in
-    let limits = limit_faults p in
-    let locals = differ_from reasons.DuplicateName owner dollar [] (locals_of b) in
-    let labels = differ_from reasons.DuplicateLabel owner as_it_is [] (labels_of b) in
-    let stated = stated_faults w owner b.stated in
-    let each = flat_map (position_faults p) (positions_of b) in
-    let from_locals = empty_right limits (locals ++ (labels ++ (stated ++ each))) e in
-    let from_labels = empty_right locals (labels ++ (stated ++ each)) from_locals in
-    let from_stated = empty_right labels (stated ++ each) from_labels in
-    let s = limits_hold p (empty_left limits (locals ++ (labels ++ (stated ++ each))) e) in
+    let f = body_facts b h in
+    let g = faultless p e in
+    let s = limits_hold p g.limits in
     let n = positions_linked w b b.items in
     let l = length-append b.params b.locals in
     let few_locals = s.locals in
@@ -484,28 +447,21 @@ body_links w b owner h e =
     let positions : length (flat_map (resolved_item w b) b.items) ≤ 65535 = omega (arith, n, few_positions) in
     let within = where_there (type_within classes) c.stated && list_all (position_within (bounds_of classes c)) c.positions in
     and_from (is_word c.name) (list_all is_word c.locals && (distinct c.locals && (in_limits c && within))) f.name
-    (and_from (list_all is_word c.locals) (distinct c.locals && (in_limits c && within)) f.locals
-    (and_from (distinct c.locals) (in_limits c && within) (differ reasons.DuplicateName owner dollar [] (locals_of b) (empty_left locals (labels ++ (stated ++ each)) from_locals))
+    (and_from (list_all is_word c.locals) (distinct c.locals && (in_limits c && within)) (all_both is_word b.params b.locals f.params f.locals)
+    (and_from (distinct c.locals) (in_limits c && within) (differ reasons.DuplicateName owner dollar [] (locals_of b) g.locals)
     (and_from (in_limits c) within
     (and_from (nat_le c.params (length c.locals)) (nat_le (length c.locals) 255 && (few_iterators c && nat_le (length c.positions) 65535)) (le-leb c.params (length c.locals) params)
     (and_from (nat_le (length c.locals) 255) (few_iterators c && nat_le (length c.positions) 65535) (le-leb (length c.locals) 255 few_locals)
     (and_from (few_iterators c) (nat_le (length c.positions) 65535) (le-leb c.iters 32 s.iters) (le-leb (length c.positions) 65535 positions))))
     (and_from (where_there (type_within classes) c.stated) (list_all (position_within (bounds_of classes c)) c.positions)
-    (stated_links w owner b.stated f.stated (empty_left stated each from_stated))
-    (items_link w b owner b.items f.items (empty_right stated each from_stated))))))
+    (stated_links w owner b.stated f.stated g.stated)
+    (items_link w b owner b.items f.items g.positions)))))
 
 methods_fit : (cs : List ClassParts) → list_all class_fits cs ≡ true → list_all (λ (c : ClassParts). list_all body_fits c.methods) cs ≡ true
 methods_fit [] h = refl
 methods_fit (c ∷ cs) h =
     let p = and_parts (class_fits c) (list_all class_fits cs) h in
-    let parent = where_there is_word c.parent in
-    let consts = list_all const_fits c.consts in
-    let props = list_all property_fits c.props in
-    let methods = list_all body_fits c.methods in
-    let a = and_parts (is_word c.name) (parent && (consts && (props && methods))) p.0 in
-    let b = and_parts parent (consts && (props && methods)) a.1 in
-    let d = and_parts consts (props && methods) b.1 in
-    and_from methods (list_all (λ (c : ClassParts). list_all body_fits c.methods) cs) (and_parts props methods d.1).1 (methods_fit cs p.1)
+    and_from (list_all body_fits c.methods) (list_all (λ (c : ClassParts). list_all body_fits c.methods) cs) (class_facts c p.0).methods (methods_fit cs p.1)
 
 -- each body of what parts that fit link to
 pub all_within : (w : Whole) → parts_fit w.functions w.classes ≡ true → faults w ≡ [] → list_all (body_within (length (class_names w))) (bodies (resolved w)) ≡ true
