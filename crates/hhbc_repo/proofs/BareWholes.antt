@@ -1,6 +1,6 @@
 -- Parts without assertions and stated types: they have the same labels, nesting and regions, are alike, are the canonical parts of the
 -- repository without them, and link to it.
-use Rattle.std.proofs.Common.{◌≡◌, ℕ, zero, suc, ◌+◌, Bool, true, false, ◌&&◌, nat_le, List, [], ◌∷◌, ◌++◌, map, flat_map, take, length, max, slice_get, Option, Some, None, option_map, codes, refl, sym, ap, ap₂, ◌∙◌}
+use Rattle.std.proofs.Common.{◌≡◌, ℕ, zero, suc, ◌+◌, Bool, true, false, ◌&&◌, nat_le, List, [], ◌∷◌, ◌++◌, map, flat_map, take, max, slice_get, Option, Some, None, option_map, codes, refl, sym, ap, ap₂, ◌∙◌}
 use Rattle.std.specs.Prelude.{if◌then◌else◌, nat_eq}
 use Rattle.std.specs.List.{list_any}
 use Rattle.std.proofs.lemmas.List.{length-map, map-append}
@@ -10,7 +10,6 @@ use Rattle.type_lattice.specs.Classes.{Tree}
 use Rattle.type_lattice.specs.TypeText.{named}
 use Rattle.hhbc_repo.specs.declared.body.Body.{Body}
 use Rattle.hhbc_repo.specs.declared.body.Position.{Position}
-use Rattle.hhbc_repo.specs.declared.body.Region.{Region}
 use Rattle.hhbc_repo.specs.declared.code.Arm.{Arm}
 use Rattle.hhbc_repo.specs.declared.code.Code.{Code}
 use Rattle.hhbc_repo.specs.declared.code.Code.TheVariants as coded
@@ -33,11 +32,11 @@ use Rattle.hhbc_repo.specs.declared.parts.PropertyParts.{PropertyParts}
 use Rattle.hhbc_repo.specs.Bare.{bare_position, bare_body, bare_property, bare_class, bare}
 use Rattle.hhbc_repo.specs.Bodies.{built_in_names, built_in_tree}
 use Rattle.hhbc_repo.specs.Bodies as repository
-use Rattle.hhbc_repo.specs.Canonical.{code_targets, targets, is_named, named_before, label_at, label_called, label_name, label_item, copies, turns, before, canonical_arm, canonical_operand, canonical_code, canonical_position, items_from, canonical_body, canonical_property, canonical_class, canonical}
+use Rattle.hhbc_repo.specs.Canonical.{code_targets, targets, is_named, named_before, label_at, label_called, label_name, label_item, copies, turns, before, canonical_operand, canonical_code, canonical_position, items_from, canonical_body, canonical_property, canonical_class, canonical}
 use Rattle.hhbc_repo.specs.Fits.{Open, InTry, InCatch, nests}
 use Rattle.hhbc_repo.specs.Linked.{Linked}
 use Rattle.hhbc_repo.specs.LinkFaults.{Name, Whole, is_name, place_in, class_names, parent_in, parents, property_names, methods, at_class, along, with_name, label_of, position_in, nesting_from}
-use Rattle.hhbc_repo.specs.Resolved.{label_here, label_from, catch_from, end_from, regions_from, resolved_arm, resolved_operand, resolved_code, resolved_position, resolved_item, resolved_body, resolved_property, resolved_class, resolved}
+use Rattle.hhbc_repo.specs.Resolved.{label_here, label_from, catch_from, end_from, regions_from, resolved_arm, resolved_operand, resolved_code, resolved_item, resolved_body, resolved_property, resolved_class, resolved}
 use Rattle.hhbc_repo.proofs.AlikeWholes.{Alike, parameters, parent_named, number_same, parent_same, type_same}
 
 abbrev pub bare_position_parts : PositionParts → PositionParts
