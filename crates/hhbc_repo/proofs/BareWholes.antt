@@ -10,7 +10,6 @@ use Rattle.type_lattice.specs.Classes.{Tree}
 use Rattle.type_lattice.specs.TypeText.{named}
 use Rattle.hhbc_repo.specs.declared.body.Body.{Body}
 use Rattle.hhbc_repo.specs.declared.body.Position.{Position}
-use Rattle.hhbc_repo.specs.declared.body.Region.{Region}
 use Rattle.hhbc_repo.specs.declared.code.Arm.{Arm}
 use Rattle.hhbc_repo.specs.declared.code.Code.{Code}
 use Rattle.hhbc_repo.specs.declared.code.Code.TheVariants as coded
@@ -38,7 +37,7 @@ use Rattle.hhbc_repo.specs.Canonical.{targets, is_named, named_before, label_at,
 use Rattle.hhbc_repo.specs.Fits.{Open, InTry, InCatch, nests}
 use Rattle.hhbc_repo.specs.Linked.{Linked}
 use Rattle.hhbc_repo.specs.LinkFaults.{Name, Whole, is_name, place_in, class_names, parent_in, parents, property_names, methods, at_class, along, with_name, label_of, position_in, nesting_from}
-use Rattle.hhbc_repo.specs.Resolved.{label_here, label_from, catch_from, end_from, regions_from, resolved_arm, resolved_operand, resolved_code, resolved_position, resolved_item, resolved_body, resolved_property, resolved_class, resolved}
+use Rattle.hhbc_repo.specs.Resolved.{label_here, label_from, catch_from, end_from, regions_from, resolved_arm, resolved_operand, resolved_code, resolved_item, resolved_body, resolved_property, resolved_class, resolved}
 use Rattle.hhbc_repo.proofs.AlikeWholes.{Alike, parameters, parent_named, number_same, parent_same, type_same}
 
 abbrev pub bare_position_parts : PositionParts → PositionParts

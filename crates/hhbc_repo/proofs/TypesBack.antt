@@ -1,8 +1,7 @@
 -- Types come back from the numbers of their classes, where each of their classes is there.
-use Rattle.std.proofs.Common.{◌≡◌, ◌<◌, ℕ, zero, suc, ◌+◌, true, ◌&&◌, List, [], ◌∷◌, ◌++◌, map, flat_map, length, slice_get, get_or, Option, Some, None, option_map, is_some, refl, sym, ap, ap₂, ◌∙◌, arith, append_assoc, length-append}
+use Rattle.std.proofs.Common.{◌≡◌, ℕ, zero, suc, ◌+◌, true, ◌&&◌, List, [], ◌∷◌, ◌++◌, map, flat_map, length, slice_get, get_or, Option, Some, None, option_map, is_some, refl, sym, ap, ap₂, ◌∙◌, arith, append_assoc, length-append}
 use Rattle.std.specs.List.{list_all}
 use Rattle.std.specs.Str.{bytes_eq}
-use Rattle.std.proofs.Math.Seq.{get_or-append_seam}
 use Rattle.std.proofs.lemmas.Bool.{and_parts}
 use Rattle.std.proofs.lemmas.List.{append-nil, map-append}
 use Rattle.std.proofs.lemmas.List.Quantifiers.{position-Some}
@@ -22,6 +21,7 @@ use Rattle.hhbc_repo.specs.Resolved.{or_zero, named_class, class_at, class_numbe
 use Rattle.hhbc_repo.specs.TypeFits.{int_in_range, str_in_range, leaf_in_range, key_in_range, entry_in_range, where_there, type_in_range, obj_classes, vec_classes, dict_classes, classes_of, type_fits}
 use Rattle.hhbc_repo.specs.WrittenTypes.{obj_placed, leaf_placed, entry_placed, canonical_type}
 use Rattle.hhbc_repo.specs.WrittenTypes as written
+use Rattle.hhbc_repo.proofs.Elements.{slice_seam}
 use Rattle.hhbc_repo.proofs.NoFaults.{empty_left, empty_right, passes}
 use Rattle.hhbc_repo.proofs.NamesMet.{found_names}
 use Rattle.hhbc_repo.proofs.NumbersPut.{same_name, absent_names}
@@ -151,11 +151,8 @@ module _ (w : Whole) (owner : Name) where
       → map (λ (c : ℕ). class_name (class_names w) (class_at w (front ++ more) c)) (numbers (length front) (length more)) ≡ more
   listed_back front [] h = refl
   listed_back front (n ∷ more) h =
-      let inside : length front < length (front ++ n ∷ more) = let k = length-append front (n ∷ more) in omega (arith, k) in
-      let at : slice_get (front ++ n ∷ more) (length front) ≡ Some n =
-      slice_get-get_or (front ++ n ∷ more) (length front) n inside ∙ ap (λ (x : Name). Some x) (get_or-append_seam front n more n) in
       let first : class_name (class_names w) (class_at w (front ++ n ∷ more) (length front)) ≡ n =
-      ap (λ (o : Option Name). class_name (class_names w) (named_class w o)) at ∙ class_back w owner n (empty_left (class_faults w owner n) (flat_map (class_faults w owner) more) h) in
+      ap (λ (o : Option Name). class_name (class_names w) (named_class w o)) (slice_seam front n more) ∙ class_back w owner n (empty_left (class_faults w owner n) (flat_map (class_faults w owner) more) h) in
       let next = listed_back (front ++ n ∷ []) more (empty_right (class_faults w owner n) (flat_map (class_faults w owner) more) h) in
       let longer : length (front ++ n ∷ []) ≡ suc (length front) = let k = length-append front (n ∷ []) in omega (arith, k) in
       let rest : map (λ (c : ℕ). class_name (class_names w) (class_at w (front ++ n ∷ more) c)) (numbers (suc (length front)) (length more)) ≡ more =

@@ -1,5 +1,5 @@
 -- What a body of parts that fit links to keeps to its ranges, where no check fails.
-use Rattle.std.proofs.Common.{◌≡◌, ◌≤◌, ℕ, suc, ◌+◌, Bool, true, not, ◌&&◌, ◌||◌, nat_le, nat_lt, List, [], ◌∷◌, ◌++◌, map, flat_map, length, Option, Some, None, option_map, is_some, refl, sym, ap, ap₂, ◌∙◌, arith, append_assoc, length-append}
+use Rattle.std.proofs.Common.{◌≡◌, ◌≤◌, ℕ, suc, Bool, true, not, ◌&&◌, ◌||◌, nat_le, nat_lt, List, [], ◌∷◌, ◌++◌, map, flat_map, length, Option, Some, None, option_map, is_some, refl, sym, ap, ap₂, ◌∙◌, arith, append_assoc, length-append}
 use Rattle.std.specs.List.{list_all, list_any}
 use Rattle.std.specs.Str.{bytes_eq}
 use Rattle.std.proofs.lemmas.Bool.{and_from, and_parts, le-leb}
@@ -73,7 +73,7 @@ class_there w owner name h = go (class_of w name) refl (passes (is_some (class_o
     go None e t = absurd (cc)
     go (Some n) e t = le-leb (suc n) (length (class_names w)) (place-within (class_names w) name n e)
 
--- ---- labels
+-- ---- positions that are linked
 
 positions_linked : (w : Whole) (b : BodyParts) (is : List ItemParts) → length (flat_map (resolved_item w b) is) ≡ length (flat_map position_in is)
 positions_linked w b is = ap length (linked_positions w b is) ∙ length-map (flat_map position_in is) (resolved_position w b)
