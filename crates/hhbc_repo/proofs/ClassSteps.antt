@@ -1,5 +1,5 @@
 -- The checks of a class, one after the other.
-use Rattle.std.proofs.Common.{◌≡◌, ℕ, Bool, true, false, not, nat_le, List, [], ◌++◌, Result, take, refl, sym, ap, ◌∙◌, subst}
+use Rattle.std.proofs.Common.{◌≡◌, ℕ, Bool, true, false, not, nat_le, List, [], ◌++◌, Result, take, ap, subst}
 use Rattle.type_lattice.specs.Classes.{Tree, chain, has, parent_of}
 use Rattle.hhbc_repo.specs.declared.link_fault.LinkFault.{LinkFault}
 use Rattle.hhbc_repo.specs.declared.link_fault.LinkError.{LinkError}
@@ -7,7 +7,7 @@ use Rattle.hhbc_repo.specs.declared.link_fault.LinkKind.TheVariants as kinds
 use Rattle.hhbc_repo.specs.declared.parts.ClassParts.{ClassParts}
 use Rattle.hhbc_repo.specs.Checks.{Tells, TellsFirst, Checks}
 use Rattle.hhbc_repo.specs.LinkFaults.{Name, Whole, names, class_names, check, parent_faults, class_checks, parents, above, different}
-use Rattle.hhbc_repo.proofs.Checking.{check_fails, checks_first, checks_then}
+use Rattle.hhbc_repo.proofs.Checking.{check_told, checks_first, checks_then, tells_then}
 
 abbrev name_check : Whole → ℕ → Name → List LinkFault
 name_check w n name = check (not (names (take n (class_names w)) name)) kinds.DuplicateName name name 0
@@ -23,23 +23,23 @@ new_name w n name b = ap (λ (k : Bool). check (not k) kinds.DuplicateName name 
 pub taken_stops : (w : Whole) (n : ℕ) (c : ClassParts) (name : Name) (e : LinkError) → name ≡ c.name → names (take n (class_names w)) name ≡ true
     → Tells (record { kind = kinds.DuplicateName; owner = name; name = name; found = 0 }) e → TellsFirst (class_checks w n c) e
 taken_stops w n c name e s b t =
-    check_fails (not (names (take n (class_names w)) c.name)) kinds.DuplicateName c.name c.name 0 (parent_faults w c.name c.parent ++ chain_checks (parents w) n c.name) e
-    (subst (λ q. not (names (take n (class_names w)) q) ≡ false) s (ap not b))
-    (subst (λ q. Tells (record { kind = kinds.DuplicateName; owner = q; name = q; found = 0 }) e) s t)
+    subst (λ q. TellsFirst (name_check w n q ++ (parent_faults w q c.parent ++ chain_checks (parents w) n q)) e) s (
+    checks_first (name_check w n name) (parent_faults w name c.parent ++ chain_checks (parents w) n name) e
+    (check_told (not (names (take n (class_names w)) name)) kinds.DuplicateName name name 0 e (ap not b) t)
+    )
 
 pub parent_stops : (w : Whole) (n : ℕ) (c : ClassParts) (name : Name) (e : LinkError) → name ≡ c.name → names (take n (class_names w)) name ≡ false
     → TellsFirst (parent_faults w name c.parent) e → TellsFirst (class_checks w n c) e
 parent_stops w n c name e s b t =
     subst (λ q. TellsFirst (name_check w n q ++ (parent_faults w q c.parent ++ chain_checks (parents w) n q)) e) s (
-    checks_then (name_check w n name) (parent_faults w name c.parent ++ chain_checks (parents w) n name) (name_check w n name ++ (parent_faults w name c.parent ++ chain_checks (parents w) n name)) e refl (new_name w n name b)
-    (checks_first (parent_faults w name c.parent) (chain_checks (parents w) n name) (parent_faults w name c.parent ++ chain_checks (parents w) n name) e refl t)
+    tells_then (name_check w n name) (parent_faults w name c.parent ++ chain_checks (parents w) n name) e (new_name w n name b)
+    (checks_first (parent_faults w name c.parent) (chain_checks (parents w) n name) e t)
     )
 
 pub chain_ends : (w : Whole) (n : ℕ) (c : ClassParts) (name : Name) (tree : Tree) (result : Result (Unit {0}) LinkError) → name ≡ c.name → names (take n (class_names w)) name ≡ false
     → parent_faults w name c.parent ≡ [] → tree ≡ parents w → Checks (chain_checks tree n name) tt result → Checks (class_checks w n c) tt result
 chain_ends w n c name tree result s b none up t =
     subst (λ q. Checks (name_check w n q ++ (parent_faults w q c.parent ++ chain_checks (parents w) n q)) tt result) s (
-    subst (λ l. Checks l tt result) (
-    sym (ap (λ l. l ++ (parent_faults w name c.parent ++ chain_checks (parents w) n name)) (new_name w n name b) ∙ ap (λ l. l ++ chain_checks (parents w) n name) none)
-    ) (subst (λ (q : Tree). Checks (chain_checks q n name) tt result) up t)
+    checks_then (name_check w n name) (parent_faults w name c.parent ++ chain_checks (parents w) n name) tt result (new_name w n name b)
+    (checks_then (parent_faults w name c.parent) (chain_checks (parents w) n name) tt result none (subst (λ (q : Tree). Checks (chain_checks q n name) tt result) up t))
     )

@@ -34,8 +34,6 @@ pub mod SoundLinks
 pub mod NamesMet
 pub mod ClassSteps
 pub mod WithinLimits
-pub mod Passing
-pub mod ItemChecks
 mod FoundByName
 mod WaysUp
 pub mod MemberSteps
