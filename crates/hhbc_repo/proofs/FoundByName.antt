@@ -10,18 +10,12 @@ use Rattle.hhbc_repo.specs.declared.repo.Const.{Const}
 use Rattle.hhbc_repo.specs.LinkFaults.{Name, Whole, is_name, names, place_in, with_name, at_class, along, constants, properties, property_names}
 use Rattle.hhbc_repo.specs.FirstNumbers.{Numbers, put, Finds}
 use Rattle.hhbc_repo.specs.Once.{added, added_all, once, constant_tables, property_tables}
-use Rattle.hhbc_repo.proofs.NumbersPut.{same_name, absent_names, there_names, place_step, next_finds}
+use Rattle.hhbc_repo.proofs.NumbersPut.{same_name, place_step, next_finds}
 
 -- ---- names kept once
 
 added_when : (b : Bool) (all : List Name) (name : Name) → names all name ≡ b → added all name ≡ (if b then all else all ++ name ∷ [])
 added_when b all name e = ap (λ (c : Bool). if c then all else all ++ name ∷ []) e
-
-pub added_there : (all : List Name) (name : Name) (i : ℕ) → place_in all name ≡ Some i → added all name ≡ all
-added_there all name i e = added_when true all name (there_names all name i e)
-
-pub added_absent : (all : List Name) (name : Name) → place_in all name ≡ None → added all name ≡ all ++ name ∷ []
-added_absent all name e = added_when false all name (absent_names all name e)
 
 pub names_append : (xs ys : List Name) (q : Name) → names (xs ++ ys) q ≡ names xs q || names ys q
 names_append [] ys q = refl

@@ -25,10 +25,10 @@ put_when : (b : Bool) (t : Numbers) (name : Name) (n : ℕ) → names t.known na
     → put t name n ≡ (if b then t else record { known = t.known ++ name ∷ []; firsts = t.firsts ++ n ∷ [] })
 put_when b t name n e = ap (λ (c : Bool). if c then t else record { known = t.known ++ name ∷ []; firsts = t.firsts ++ n ∷ [] }) e
 
-pub put_there : (t : Numbers) (name : Name) (n i : ℕ) → place_in t.known name ≡ Some i → put t name n ≡ t
+put_there : (t : Numbers) (name : Name) (n i : ℕ) → place_in t.known name ≡ Some i → put t name n ≡ t
 put_there t name n i e = put_when true t name n (there_names t.known name i e)
 
-pub put_absent : (t : Numbers) (name : Name) (n : ℕ) → place_in t.known name ≡ None → put t name n ≡ record { known = t.known ++ name ∷ []; firsts = t.firsts ++ n ∷ [] }
+put_absent : (t : Numbers) (name : Name) (n : ℕ) → place_in t.known name ≡ None → put t name n ≡ record { known = t.known ++ name ∷ []; firsts = t.firsts ++ n ∷ [] }
 put_absent t name n e = put_when false t name n (absent_names t.known name e)
 
 -- ---- places

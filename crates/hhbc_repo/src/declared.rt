@@ -1,10 +1,9 @@
 //! What classes declare, by name. A name may stand more than once: the first counts.
 
 ghost use Rattle.std.specs.Prelude.{◌≡◌, [], ◌∷◌, ◌++◌, OnOk, IfOk, MatchOption, None, Some, map, codes};
-ghost use Rattle.type_lattice.specs.Classes.{chain};
 ghost use Rattle.hhbc_repo.specs.FirstNumbers.{put};
-ghost use Rattle.hhbc_repo.specs.LinkFaults.{along, at_class, names, place_in, with_name};
-ghost use Rattle.hhbc_repo.specs.Once.{added, once};
+ghost use Rattle.hhbc_repo.specs.LinkFaults.{place_in, with_name};
+ghost use Rattle.hhbc_repo.specs.Once.{once};
 
 use crate::name_table::NameTable;
 use crate::parts::{BodyParts, PropertyParts};
@@ -47,14 +46,12 @@ fn put_place(
 ) -> Result<(), NoMemory>
     ensures { OnOk result (record { known = known.new; firsts = firsts.new } ≡ put (record { known = known.old; firsts = firsts.old }) name.now place) }
 {
-    match known.find(name) {
-        Some(_found) => Ok(()),
-        None => {
-            known.add(alloc, name)?;
-            firsts.push(place)?;
-            Ok(())
-        }
+    if known.contains(name) {
+        return Ok(());
     }
+    known.add(alloc, name)?;
+    firsts.push(place)?;
+    Ok(())
 }
 
 impl<'a> BodyTable<'a> {
@@ -101,33 +98,13 @@ impl<'a> BodyTable<'a> {
     }
 }
 
-/// Whether the name is in the table.
-pub(crate) fn contains(table: &NameTable, name: &[u8]) -> bool
-    ensures { result ≡ names table.now name.now }
-{
-    match table.find(name) {
-        Some(_place) => true,
-        None => false,
-    }
-}
-
-/// Adds a name that may be there.
-fn add_once(table: &mut NameTable, alloc: Global, name: &[u8]) -> Result<(), NoMemory>
-    ensures { OnOk result (table.new ≡ added table.old name.now) }
-{
-    match table.find(name) {
-        Some(_place) => Ok(()),
-        None => table.add(alloc, name),
-    }
-}
-
 /// The names of constants.
 pub(crate) fn constant_names(alloc: Global, constants: &[Const]) -> Result<NameTable, NoMemory>
     ensures { IfOk result (λ t. t ≡ once (map (λ c. c.name) constants.now)) }
 {
     let mut table = NameTable::new(alloc);
     for constant in constants {
-        add_once(&mut table, alloc, constant.name.bytes())?;
+        table.add_once(alloc, constant.name.bytes())?;
     }
     Ok(table)
 }
@@ -141,7 +118,7 @@ pub(crate) fn property_names(
 {
     let mut table = NameTable::new(alloc);
     for property in properties {
-        add_once(&mut table, alloc, property.name.bytes())?;
+        table.add_once(alloc, property.name.bytes())?;
     }
     Ok(table)
 }

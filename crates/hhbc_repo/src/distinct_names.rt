@@ -14,14 +14,6 @@ use crate::telling::{of_local, plain};
 use hack_values::Text;
 use std::alloc::Global;
 
-/// Whether the name is in the table.
-#[tactic(auto, using(crate::proofs::NamesMet::found_names))]
-pub(crate) fn is_among(table: &NameTable, name: &[u8]) -> bool
-    ensures { result ≡ names table.now name.now }
-{
-    table.find(name).is_some()
-}
-
 /// With a name that isn't there.
 fn grown(mut seen: NameTable, alloc: Global, name: &[u8]) -> Result<NameTable, LinkError>
     requires { names seen name.now ≡ false }
@@ -43,7 +35,7 @@ pub(crate) fn with_new(
 ) -> Result<NameTable, LinkError>
     ensures { Checks (check (not (names seen name.now)) kind owner.now name.now 0) (seen ++ name.now ∷ []) result }
 {
-    if is_among(&seen, name) {
+    if seen.contains(name) {
         return Err(plain(alloc, kind, owner, name));
     }
     grown(seen, alloc, name)
@@ -58,7 +50,7 @@ pub(crate) fn with_new_local(
 ) -> Result<NameTable, LinkError>
     ensures { Checks (check (not (names seen name.now)) kinds.DuplicateName owner.now (dollar name.now) 0) (seen ++ name.now ∷ []) result }
 {
-    if is_among(&seen, name) {
+    if seen.contains(name) {
         return Err(of_local(alloc, LinkKind::DuplicateName, owner, name));
     }
     grown(seen, alloc, name)

@@ -72,9 +72,9 @@ impl FirstNumbers {
     ) -> Result<FirstNumbers, NoMemory>
         ensures { IfOk result (λ t. t ≡ put self name.now number) }
     {
-        match self.known.find(name) {
-            Some(_found) => Ok(self),
-            None => self.grown(alloc, name, number),
+        if self.known.contains(name) {
+            return Ok(self);
         }
+        self.grown(alloc, name, number)
     }
 }

@@ -9,7 +9,7 @@ ghost use Rattle.hhbc_repo.specs.Once.{constant_tables, property_tables};
 
 use crate::class_chains::parent_in;
 use crate::class_list::built_in_parents;
-use crate::declared::{BodyTable, constant_names, contains, property_names};
+use crate::declared::{BodyTable, constant_names, property_names};
 use crate::listed::Listed;
 use crate::name_table::NameTable;
 use crate::parts::{BodyParts, ClassParts};
@@ -144,7 +144,7 @@ fn declares_itself(tables: &[NameTable], class: u32, name: &[u8]) -> bool
     ensures { result ≡ names (at_class (slice_get tables.now class)) name.now }
 {
     match tables.get(class as usize) {
-        Some(table) => contains(table, name),
+        Some(table) => table.contains(name),
         None => false,
     }
 }

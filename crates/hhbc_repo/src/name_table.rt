@@ -3,6 +3,7 @@
 ghost use Rattle.std.specs.Prelude.{◌≡◌, [], ◌∷◌, ◌++◌, OnOk, IfOk, IfSome, ◌<◌, length, map, true, false};
 ghost use Rattle.hhbc_repo.specs.LinkFaults.{names, place_in};
 ghost use Rattle.hhbc_repo.specs.Names.{distinct};
+ghost use Rattle.hhbc_repo.specs.Once.{added};
 
 use crate::body::Body;
 use crate::repo::Property;
@@ -46,6 +47,14 @@ impl NameTable {
         self.keys.get_index_of(name)
     }
 
+    /// Whether the name is in the table.
+    #[tactic(auto, using(crate::proofs::NamesMet::found_names))]
+    pub(crate) fn contains(&self, name: &[u8]) -> bool
+        ensures { result ≡ names self.now name.now }
+    {
+        self.find(name).is_some()
+    }
+
     /// Adds a name that isn't there.
     pub(crate) fn add(&mut self, alloc: Global, name: &[u8]) -> Result<(), NoMemory>
         requires { names self.old name.now ≡ false }
@@ -54,6 +63,16 @@ impl NameTable {
         let key = Vec::from_slice(alloc, name)?;
         self.keys.insert(key)?;
         Ok(())
+    }
+
+    /// Adds a name that may be there.
+    pub(crate) fn add_once(&mut self, alloc: Global, name: &[u8]) -> Result<(), NoMemory>
+        ensures { OnOk result (self.new ≡ added self.old name.now) }
+    {
+        if self.contains(name) {
+            return Ok(());
+        }
+        self.add(alloc, name)
     }
 }
 
