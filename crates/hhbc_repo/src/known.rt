@@ -13,7 +13,7 @@ use crate::declared::{BodyTable, constant_names, property_names};
 use crate::listed::Listed;
 use crate::name_table::NameTable;
 use crate::parts::{BodyParts, ClassParts};
-use hack_values::{NoMemory, Seq, Text};
+use hack_values::{NoMemory, Seq};
 use std::alloc::Global;
 use std::marker::Model;
 
@@ -44,16 +44,6 @@ impl<'a> Model for Known<'a> {
     ghost invariant = { λ k. Tabled k.listed k.tree k.functions k.of_constants k.of_properties k.of_methods };
 }
 
-/// The number of a parent.
-fn parent_number(listed: &Listed<'_>, parent: &Option<Text>) -> Option<u32>
-    ensures { result ≡ faults.parent_in listed.now parent.now }
-{
-    match parent {
-        Some(name) => listed.class_of(name.bytes()),
-        None => None,
-    }
-}
-
 /// The parents of all classes.
 fn all_parents(
     alloc: Global,
@@ -64,7 +54,7 @@ fn all_parents(
 {
     let mut all = built_in_parents(alloc)?;
     for class in classes {
-        all.push(parent_number(listed, &class.parent))?;
+        all.push(listed.parent_of(&class.parent))?;
     }
     Ok(all)
 }

@@ -4,7 +4,6 @@ ghost use Rattle.std.specs.Prelude.{◌≡◌, ◌∷◌, ◌++◌, IfOk, codes,
 ghost use Rattle.std.specs.List.{flat_map};
 ghost use Rattle.hhbc_repo.specs.Checks.{Checks};
 ghost use Rattle.hhbc_repo.specs.LinkFaults.{body_faults, method_places};
-ghost use Rattle.hhbc_repo.specs.LinkFaults as faults;
 ghost use Rattle.hhbc_repo.specs.Resolved.{resolved_body, resolved_class, resolved_property};
 
 use crate::body::Body;
@@ -119,16 +118,6 @@ fn copied_constants(alloc: Global, constants: &[Const]) -> Result<Seq<Const>, No
     Ok(all)
 }
 
-/// The number of the first class that has the name of a parent.
-fn parent_of(known: &Known, parent: &Option<Text>) -> Option<u32>
-    ensures { result ≡ faults.parent_in known.now parent.now }
-{
-    match parent {
-        Some(name) => known.listed().class_of(name.bytes()),
-        None => None,
-    }
-}
-
 /// The class with these methods.
 fn class_with(
     alloc: Global,
@@ -141,7 +130,7 @@ fn class_with(
 {
     Ok(Class {
         name: parts.name.copy(alloc)?,
-        parent: parent_of(known, &parts.parent),
+        parent: known.listed().parent_of(&parts.parent),
         consts: copied_constants(alloc, parts.consts.as_slice())?,
         props: properties(alloc, known, parts.props.as_slice())?,
         methods,

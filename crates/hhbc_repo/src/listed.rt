@@ -98,4 +98,14 @@ impl<'a> Listed<'a> {
     {
         self.numbers.find(name)
     }
+
+    /// The number of a parent, where a class has its name.
+    pub(crate) fn parent_of(&self, parent: &Option<Text>) -> Option<u32>
+        ensures { result ≡ faults.parent_in self.now parent.now }
+    {
+        match parent {
+            Some(name) => self.class_of(name.bytes()),
+            None => None,
+        }
+    }
 }
