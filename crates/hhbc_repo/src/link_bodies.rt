@@ -6,38 +6,21 @@ ghost use Rattle.hhbc_repo.specs.declared.link_fault.LinkKind.TheVariants as kin
 ghost use Rattle.hhbc_repo.specs.BodyLimits.{InLimits};
 ghost use Rattle.hhbc_repo.specs.Checks.{Checks};
 ghost use Rattle.hhbc_repo.specs.LinkFaults as faults;
-ghost use Rattle.hhbc_repo.specs.LinkFaults.{Whole, as_it_is, body_faults, differ_from, dollar, labels_of, limit_faults, position_faults, positions_of, stated_faults, within};
+ghost use Rattle.hhbc_repo.specs.LinkFaults.{Whole, as_it_is, body_faults, differ_from, dollar, labels_of, limit_faults, position_faults, positions_of, stated_faults};
 ghost use Rattle.hhbc_repo.specs.Resolved.{regions_from, resolved_body, resolved_item, resolved_type};
 
 use crate::body::{Body, Position};
 use crate::distinct_names::{check_labels, check_locals};
 use crate::known::Known;
-use crate::link_fault::{LinkError, LinkKind};
+use crate::link_counts::check_limit;
+use crate::link_fault::LinkError;
 use crate::nesting::{count_positions, nesting};
 use crate::parts::BodyParts;
 use crate::regions::regions;
 use crate::scope::{Scope, local_names};
-use crate::telling::counted;
 use hack_values::{NoMemory, Seq, Text};
 use std::alloc::Global;
 use type_lattice::HType;
-
-/// A count is no more than it may be.
-fn check_limit(
-    alloc: Global,
-    owner: &[u8],
-    limit: u64,
-    count: u64,
-    name: &[u8],
-) -> Result<(), LinkError>
-    ensures { Checks (within limit count owner.now name.now) tt result }
-{
-    if count <= limit {
-        Ok(())
-    } else {
-        Err(counted(alloc, LinkKind::OverLimit, owner, name, count))
-    }
-}
 
 fn count_locals(body: &BodyParts) -> usize
     ensures { result ≡ length (faults.locals_of body.now) }

@@ -1,6 +1,6 @@
-//! How many functions and classes there may be.
+//! Counts that have a limit, and how many functions and classes there may be.
 
-ghost use Rattle.std.specs.Prelude.{◌≡◌, [], IfSome, length};
+ghost use Rattle.std.specs.Prelude.{◌≡◌, IfSome, length};
 ghost use Rattle.hhbc_repo.specs.Checks.{Checks};
 ghost use Rattle.hhbc_repo.specs.LinkFaults.{count_faults, places, within};
 
@@ -24,14 +24,20 @@ fn count_bodies(functions: &[BodyParts], classes: &[ClassParts]) -> Option<u64>
     Some(count)
 }
 
-/// A count of the whole repository is to be within its limit.
-fn check_limit(alloc: Global, limit: u64, count: u64, name: &[u8]) -> Result<(), LinkError>
-    ensures { Checks (within limit count [] name.now) tt result }
+/// A count is no more than it may be. What is counted of the whole repository has the empty name for its owner.
+pub(crate) fn check_limit(
+    alloc: Global,
+    owner: &[u8],
+    limit: u64,
+    count: u64,
+    name: &[u8],
+) -> Result<(), LinkError>
+    ensures { Checks (within limit count owner.now name.now) tt result }
 {
     if count <= limit {
         return Ok(());
     }
-    Err(counted(alloc, LinkKind::OverLimit, b"", name, count))
+    Err(counted(alloc, LinkKind::OverLimit, owner, name, count))
 }
 
 /// There are no more functions, methods and classes than may be.
@@ -43,8 +49,8 @@ pub(crate) fn check_counts(
     ensures { Checks (count_faults (record { functions = functions.now; classes = classes.now })) tt result }
 {
     match count_bodies(functions, classes) {
-        Some(count) => match check_limit(alloc, 65535, count, b"functions") {
-            Ok(()) => check_limit(alloc, 16384, classes.len() as u64, b"classes"),
+        Some(count) => match check_limit(alloc, b"", 65535, count, b"functions") {
+            Ok(()) => check_limit(alloc, b"", 16384, classes.len() as u64, b"classes"),
             Err(error) => Err(error),
         },
         None => Err(LinkError::NoMemory),
