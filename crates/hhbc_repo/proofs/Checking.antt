@@ -1,34 +1,37 @@
--- Checks one after the other.
-use Rattle.std.proofs.Common.{◌≡◌, ℕ, Bool, true, false, ◌+◌, ◌<◌, List, [], ◌∷◌, ◌++◌, length, drop, get_or, sym, ap, ◌∙◌, subst}
-use Rattle.std.proofs.lemmas.List.{at_drop_more}
+-- One check, and checks one after the other.
+use Rattle.std.proofs.Common.{◌≡◌, ℕ, Bool, true, false, List, [], ◌∷◌, ◌++◌, Result, refl, sym, ap, ◌∙◌, subst}
 use Rattle.hhbc_repo.specs.declared.link_fault.LinkFault.{LinkFault}
+use Rattle.hhbc_repo.specs.declared.link_fault.LinkKind.{LinkKind}
 use Rattle.hhbc_repo.specs.declared.link_fault.LinkError.{LinkError}
 use Rattle.hhbc_repo.specs.declared.link_fault.LinkError.TheVariants.{Fault, NoMemory}
-use Rattle.hhbc_repo.specs.declared.link_fault.LinkKind.{LinkKind}
-use Rattle.hhbc_repo.specs.Checks.{Tells, TellsFirst}
 use Rattle.hhbc_repo.specs.LinkFaults.{Name, check}
+use Rattle.hhbc_repo.specs.Checks.{Tells, TellsFirst, Checks}
 
--- the first fault of some checks is the first of those and more
-pub checks_first : (fs more all : List LinkFault) (e : LinkError) → fs ++ more ≡ all → TellsFirst fs e → TellsFirst all e
-checks_first fs more all (Fault f) s t = (t.0 ++ more, sym s ∙ ap (λ l. l ++ more) t.1)
-checks_first fs more all NoMemory s t = t
+-- a check that fails, and its fault
+pub check_told : (passes : Bool) (kind : LinkKind) (owner name : Name) (found : ℕ) (e : LinkError)
+    → passes ≡ false → Tells (record { kind = kind; owner = owner; name = name; found = found }) e → TellsFirst (check passes kind owner name found) e
+check_told true kind owner name found e is told = absurd (cc)
+check_told false kind owner name found (Fault f) is told = ([], ap (λ g. g ∷ []) (sym told))
+check_told false kind owner name found NoMemory is told = tt
 
--- the first of some that tell nothing and more is the first of those
-pub checks_then : (fs more all : List LinkFault) (e : LinkError) → fs ++ more ≡ all → fs ≡ [] → TellsFirst more e → TellsFirst all e
-checks_then fs more all e s none t = subst (λ l. TellsFirst l e) (ap (λ l. l ++ more) (sym none) ∙ s) t
+pub check_passes : (passes : Bool) (kind : LinkKind) (owner name : Name) (found : ℕ) → passes ≡ true → check passes kind owner name found ≡ []
+check_passes true kind owner name found is = refl
+check_passes false kind owner name found is = absurd (cc)
 
-pub both_pass : (fs more all : List LinkFault) → fs ++ more ≡ all → fs ≡ [] → more ≡ [] → all ≡ []
-both_pass fs more all s none nothing = sym s ∙ ap (λ l. l ++ more) none ∙ nothing
+-- ---- checks, and more behind them
 
--- what is left of a loop tells the first fault of its next step
-pub checks_loop : {X : Type 0} (F : List X → List LinkFault) (xs : List X) (i : ℕ) (x d : X) (fs more all : List LinkFault) (e : LinkError)
-    → i < length xs → get_or xs i d ≡ x → F (x ∷ drop (i + 1) xs) ≡ fs ++ more → F (drop i xs) ≡ all → TellsFirst fs e → TellsFirst all e
-checks_loop F xs i x d fs more all e h at step left t =
-    checks_first fs more all e (sym step ∙ ap (λ y. F (y ∷ drop (i + 1) xs)) (sym at) ∙ sym (at_drop_more F xs i d h) ∙ left) t
+-- the first of these is the first of more
+pub checks_first : (fs gs : List LinkFault) (e : LinkError) → TellsFirst fs e → TellsFirst (fs ++ gs) e
+checks_first fs gs (Fault f) told = (told.0 ++ gs, ap (λ l. l ++ gs) told.1)
+checks_first fs gs NoMemory told = tt
 
--- a check that fails is the first, whatever comes behind it
-pub check_fails : (passes : Bool) (kind : LinkKind) (owner name : Name) (found : ℕ) (more : List LinkFault) (e : LinkError)
-    → passes ≡ false → Tells (record { kind = kind; owner = owner; name = name; found = found }) e → TellsFirst (check passes kind owner name found ++ more) e
-check_fails true kind owner name found more e p t = absurd (cc)
-check_fails false kind owner name found more (Fault f) p t = (more, ap (λ (g : LinkFault). g ∷ more) (sym t))
-check_fails false kind owner name found more NoMemory p t = t
+-- where these pass, those behind them decide
+pub checks_then : {V : Type 0} (fs gs : List LinkFault) (v : V) (r : Result V LinkError) → fs ≡ [] → Checks gs v r → Checks (fs ++ gs) v r
+checks_then fs gs v r none c = subst (λ (l : List LinkFault). Checks (l ++ gs) v r) (sym none) c
+
+-- where these pass, the first of those behind them
+pub tells_then : (fs gs : List LinkFault) (e : LinkError) → fs ≡ [] → TellsFirst gs e → TellsFirst (fs ++ gs) e
+tells_then fs gs e none told = subst (λ l. TellsFirst (l ++ gs) e) (sym none) told
+
+pub both_pass : (fs gs : List LinkFault) → fs ≡ [] → gs ≡ [] → fs ++ gs ≡ []
+both_pass fs gs none more = ap (λ l. l ++ gs) none ∙ more

@@ -28,13 +28,9 @@ pub mod NoFaults
 pub mod DeclaredTree
 pub mod SoundLinks
 pub mod NamesMet
-pub mod ClassSteps
 pub mod WithinLimits
-pub mod Passing
-pub mod ItemChecks
 mod FoundByName
 mod WaysUp
-pub mod MemberSteps
 pub mod BodyCounts
 pub mod KeptOnce
 pub mod SpelledTypes

@@ -6,7 +6,7 @@ use Rattle.hhbc_repo.specs.declared.link_fault.LinkKind.{LinkKind}
 use Rattle.hhbc_repo.specs.declared.link_fault.LinkError.{LinkError}
 use Rattle.hhbc_repo.specs.Checks.{TellsFirst}
 use Rattle.hhbc_repo.specs.LinkFaults.{Name, names, place_in, check, differ_from}
-use Rattle.hhbc_repo.proofs.Checking.{checks_loop}
+use Rattle.hhbc_repo.proofs.CheckLoops.{loop_tells}
 use Rattle.hhbc_repo.proofs.NumbersPut.{place_step}
 
 pub found_names : (all : List Name) (name : Name) → is_some (place_in all name) ≡ names all name
@@ -15,12 +15,12 @@ found_names (n ∷ ns) name = grind (arith, found_names ns name)
 
 -- the next of what is left has a name that was met
 pub differ_stops : {X : Type 0} (kind : LinkKind) (owner : Name) (spelled : Name → Name) (name_of : X → Name) (seen : List Name) (xs : List X) (i : ℕ) (x d : X)
-    (name : Name) (all : List LinkFault) (e : LinkError) → i < length xs → get_or xs i d ≡ x → name ≡ name_of x → differ_from kind owner spelled seen (map name_of (drop i xs)) ≡ all
+    (name : Name) (all : List LinkFault) (e : LinkError) → i < length xs → x ≡ get_or xs i d → name ≡ name_of x → differ_from kind owner spelled seen (map name_of (drop i xs)) ≡ all
     → TellsFirst (check (not (names seen name)) kind owner (spelled name) 0) e → TellsFirst all e
 differ_stops kind owner spelled name_of seen xs i x d name all e h at is left t =
-    checks_loop (λ ys. differ_from kind owner spelled seen (map name_of ys)) xs i x d (check (not (names seen name)) kind owner (spelled name) 0)
-    (differ_from kind owner spelled (seen ++ name ∷ []) (map name_of (drop (i + 1) xs))) all e h at
-    (ap (λ n. check (not (names seen n)) kind owner (spelled n) 0 ++ differ_from kind owner spelled (seen ++ n ∷ []) (map name_of (drop (i + 1) xs))) (sym is)) left t
+    loop_tells (λ ys. differ_from kind owner spelled seen (map name_of ys)) xs i x d (check (not (names seen name)) kind owner (spelled name) 0)
+    (differ_from kind owner spelled (seen ++ name ∷ []) (map name_of (drop (i + 1) xs))) all e h at left
+    (ap (λ n. check (not (names seen n)) kind owner (spelled n) 0 ++ differ_from kind owner spelled (seen ++ n ∷ []) (map name_of (drop (i + 1) xs))) (sym is)) t
 
 -- names, and more behind them
 pub differ_append : (kind : LinkKind) (owner : Name) (spelled : Name → Name) (before xs ys : List Name)

@@ -1,7 +1,7 @@
 use Rattle.std.proofs.Common.{rules, ◌≡◌, [], length, codes}
 use Rattle.hhbc_repo.specs.Checks.{TellsFirst}
 use Rattle.hhbc_repo.specs.LinkFaults.{locals_of, positions_of, within}
-use Rattle.hhbc_repo.proofs.Passing.{checks_first, tells_then}
+use Rattle.hhbc_repo.proofs.Checking.{checks_first, tells_then}
 use Rattle.hhbc_repo.proofs.link_bodies.check_limits.Goals as goal
 
 pub returns-in-Err : goal.returns-in-Err

@@ -1,5 +1,5 @@
 use Rattle.hhbc_repo.specs.LinkFaults.{Place, limit_faults}
-use Rattle.hhbc_repo.proofs.Passing.{checks_first, checks_then}
+use Rattle.hhbc_repo.proofs.Checking.{checks_first, checks_then}
 use Rattle.hhbc_repo.proofs.WithinLimits.{passed, told, limits_hold}
 use Rattle.hhbc_repo.proofs.link_bodies.linked_body.Goals as goal
 

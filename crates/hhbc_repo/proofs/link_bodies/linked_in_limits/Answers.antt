@@ -2,7 +2,7 @@ use Rattle.std.proofs.Common.{rules, ◌≡◌, []}
 use Rattle.hhbc_repo.specs.declared.link_fault.LinkKind.TheVariants as kinds
 use Rattle.hhbc_repo.specs.Checks.{TellsFirst}
 use Rattle.hhbc_repo.specs.LinkFaults.{as_it_is, differ_from, dollar, labels_of, locals_of}
-use Rattle.hhbc_repo.proofs.Passing.{checks_first, tells_then}
+use Rattle.hhbc_repo.proofs.Checking.{checks_first, tells_then}
 use Rattle.hhbc_repo.proofs.link_bodies.linked_in_limits.Goals as goal
 
 pub returns-in-Err : goal.returns-in-Err

@@ -1,7 +1,7 @@
 use Rattle.std.proofs.Common.{rules}
 use Rattle.hhbc_repo.specs.Checks.{TellsFirst}
 use Rattle.hhbc_repo.specs.LinkFaults.{stated_faults}
-use Rattle.hhbc_repo.proofs.Passing.{checks_first}
+use Rattle.hhbc_repo.proofs.Checking.{checks_first}
 use Rattle.hhbc_repo.proofs.link_bodies.linked_inside.Goals as goal
 
 pub returns-in-Err : goal.returns-in-Err

@@ -5,7 +5,7 @@ use Rattle.hhbc_repo.specs.declared.link_fault.LinkFault.{LinkFault}
 use Rattle.hhbc_repo.specs.Checks.{TellsFirst}
 use Rattle.hhbc_repo.specs.LinkFaults.{Place, Whole, body_faults}
 use Rattle.hhbc_repo.specs.Resolved.{resolved_body}
-use Rattle.hhbc_repo.proofs.CheckLoops.{loop_tells, loop_left, collected}
+use Rattle.hhbc_repo.proofs.CheckLoops.{item_tells, item_passes, collected}
 use Rattle.hhbc_repo.proofs.link_classes.linked_functions.Goals as goal
 
 abbrev place : Whole → BodyParts → Place
@@ -22,7 +22,7 @@ returns-in-Err c =
     let w = c.args.known.now in
     let l = c.loop-function in
     let told : TellsFirst (one_faults w c.function-item.result) c.in-Err.error = search rules in
-    loop_tells (all_faults w) (one_faults w) c.args.functions.now l.function-index c.function-item.result _ c.in-Err.error (λ y ys. refl) c.loop-function-test.true
+    item_tells (all_faults w) (one_faults w) c.args.functions.now l.function-index c.function-item.result _ c.in-Err.error (λ y ys. refl) c.loop-function-test.true
     c.function-item.is l.invariant.left told
 
 pub loop-function-preserved : goal.loop-function-preserved
@@ -31,6 +31,6 @@ loop-function-preserved c =
     let l = c.loop-function in
     let none : one_faults w c.function-item.result ≡ [] = search rules in
     record {
-      left = loop_left (all_faults w) (one_faults w) c.args.functions.now l.function-index c.function-item.result _ (λ y ys. refl) c.loop-function-test.true c.function-item.is l.invariant.left none;
+      left = item_passes (all_faults w) (one_faults w) c.args.functions.now l.function-index c.function-item.result _ (λ y ys. refl) c.loop-function-test.true c.function-item.is l.invariant.left none;
       all = collected (resolved_body w) c.args.functions.now l.function-index c.function-item.result _ l.all c.push.new.self c.in-Ok.linked c.loop-function-test.true c.function-item.is l.invariant.all c.in_ok-push-in-Ok.ensures.ok c.in-Ok.ensures.1;
     }

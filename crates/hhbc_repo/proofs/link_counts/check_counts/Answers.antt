@@ -1,7 +1,7 @@
 use Rattle.std.proofs.Common.{ℕ, [], length, codes, subst}
 use Rattle.hhbc_repo.specs.Checks.{TellsFirst}
 use Rattle.hhbc_repo.specs.LinkFaults.{Whole, places, within}
-use Rattle.hhbc_repo.proofs.Passing.{checks_first}
+use Rattle.hhbc_repo.proofs.Checking.{checks_first}
 use Rattle.hhbc_repo.proofs.link_counts.check_counts.Goals as goal
 
 pub returns-in-Err : goal.returns-in-Err

@@ -4,7 +4,7 @@ use Rattle.std.proofs.lemmas.Grind.{flat_map-append}
 use Rattle.hhbc_repo.specs.declared.link_fault.LinkFault.{LinkFault}
 use Rattle.hhbc_repo.specs.Checks.{TellsFirst}
 use Rattle.hhbc_repo.specs.LinkFaults.{body_faults, function_places, method_places}
-use Rattle.hhbc_repo.proofs.Passing.{checks_first}
+use Rattle.hhbc_repo.proofs.Checking.{checks_first}
 use Rattle.hhbc_repo.proofs.linker.linked_bodies.Goals as goal
 
 pub returns-in-Err : goal.returns-in-Err

@@ -1,7 +1,7 @@
 use Rattle.std.proofs.Common.{rules, ◌≡◌, []}
 use Rattle.hhbc_repo.specs.Checks.{TellsFirst}
 use Rattle.hhbc_repo.specs.LinkFaults.{repeated_functions, each_class, class_checks, member_checks, first_class}
-use Rattle.hhbc_repo.proofs.Passing.{checks_first, tells_then}
+use Rattle.hhbc_repo.proofs.Checking.{checks_first, tells_then}
 use Rattle.hhbc_repo.proofs.linker.linked_known.Goals as goal
 
 pub returns-in-Err : goal.returns-in-Err

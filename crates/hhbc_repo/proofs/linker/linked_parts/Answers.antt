@@ -1,7 +1,7 @@
 use Rattle.std.proofs.Common.{◌≡◌, [], sym, subst}
 use Rattle.hhbc_repo.specs.Checks.{TellsFirst}
 use Rattle.hhbc_repo.specs.LinkFaults.{Whole, count_faults}
-use Rattle.hhbc_repo.proofs.Passing.{checks_first, checks_then}
+use Rattle.hhbc_repo.proofs.Checking.{checks_first, checks_then}
 use Rattle.hhbc_repo.proofs.WithinLimits.{passed, told, few_classes}
 use Rattle.hhbc_repo.proofs.linker.linked_parts.Goals as goal
 

@@ -2,7 +2,7 @@ use Rattle.std.proofs.Common.{◌+◌, [], ◌∷◌, ◌++◌, List, drop, not,
 use Rattle.hhbc_repo.specs.LinkFaults.{along, ancestors, check, names, properties, property_checks, stated_faults}
 use Rattle.hhbc_repo.specs.declared.parts.PropertyParts.{PropertyParts}
 use Rattle.hhbc_repo.specs.declared.link_fault.LinkKind.TheVariants as kinds
-use Rattle.hhbc_repo.proofs.Checking.{checks_loop}
+use Rattle.hhbc_repo.proofs.CheckLoops.{loop_tells}
 use Rattle.hhbc_repo.proofs.member_checks.check_properties.Goals as goal
 
 pub returns-in-Err : goal.returns-in-Err
@@ -13,5 +13,5 @@ returns-in-Err c =
     let p = c.property-item.result in
     let here = check (not (names met p.name)) kinds.DuplicateProperty owner p.name 0 in
     let more = property_checks w owner (met ++ p.name ∷ []) (drop (c.loop-property.property-index + 1) c.args.properties.now) in
-    checks_loop (λ (ps : List PropertyParts). property_checks w owner met ps) c.args.properties.now c.loop-property.property-index p p (here ++ stated_faults w owner p.stated) more _
-    c.in-Err.error c.loop-property-test.true (sym c.property-item.is) (sym (append_assoc here (stated_faults w owner p.stated) more)) c.loop-property.invariant c.in-Err.ensures
+    loop_tells (λ (ps : List PropertyParts). property_checks w owner met ps) c.args.properties.now c.loop-property.property-index p p (here ++ stated_faults w owner p.stated) more _
+    c.in-Err.error c.loop-property-test.true c.property-item.is c.loop-property.invariant (sym (append_assoc here (stated_faults w owner p.stated) more)) c.in-Err.ensures

@@ -1,4 +1,4 @@
-use Rattle.std.proofs.Common.{◌++◌, not, refl, subst}
+use Rattle.std.proofs.Common.{◌++◌, not, subst}
 use Rattle.hhbc_repo.specs.Checks.{TellsFirst}
 use Rattle.hhbc_repo.specs.LinkFaults.{Name, along, ancestors, check, names, properties, stated_faults}
 use Rattle.hhbc_repo.specs.declared.link_fault.LinkKind.TheVariants as kinds
@@ -9,5 +9,5 @@ pub returns-in-Err : goal.returns-in-Err
 returns-in-Err c =
     let met = along (properties c.args.known.now) (ancestors c.args.known.now c.args.number) ++ c.args.seen in
     checks_first (check (not (names met c.args.property.now.name)) kinds.DuplicateProperty c.args.owner.now c.args.property.now.name 0)
-    (stated_faults c.args.known.now c.args.owner.now c.args.property.now.stated) _ c.in-Err.error refl
+    (stated_faults c.args.known.now c.args.owner.now c.args.property.now.stated) c.in-Err.error
     (subst (λ (n : Name). TellsFirst (check (not (names met n)) kinds.DuplicateProperty c.args.owner.now n 0) c.in-Err.error) c.bytes.ensures c.in-Err.ensures)

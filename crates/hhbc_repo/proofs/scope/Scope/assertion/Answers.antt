@@ -2,7 +2,7 @@ use Rattle.std.proofs.Common.{sym, subst}
 use Rattle.hhbc_repo.specs.declared.parts.AssertParts.{AssertParts}
 use Rattle.hhbc_repo.specs.Checks.{TellsFirst}
 use Rattle.hhbc_repo.specs.LinkFaults.{Name, assert_faults, local_faults, type_faults}
-use Rattle.hhbc_repo.proofs.Passing.{checks_first}
+use Rattle.hhbc_repo.proofs.Checking.{checks_first}
 use Rattle.hhbc_repo.proofs.scope.Scope.assertion.Goals as goal
 
 pub returns-in-Err : goal.returns-in-Err

@@ -4,7 +4,7 @@ use Rattle.hhbc_repo.specs.Checks.{TellsFirst}
 use Rattle.hhbc_repo.specs.LinkFaults.{Whole, class_of, constant_faults, constants, along, parents, names}
 use Rattle.hhbc_repo.specs.LinkFaults.{known as known_faults}
 use Rattle.hhbc_repo.specs.declared.link_fault.LinkKind.TheVariants as kinds
-use Rattle.hhbc_repo.proofs.Passing.{check_passes}
+use Rattle.hhbc_repo.proofs.Checking.{check_passes}
 use Rattle.hhbc_repo.proofs.scope.Scope.check_constant.Goals as goal
 
 pub returns-then-has_constant : goal.returns-then-has_constant

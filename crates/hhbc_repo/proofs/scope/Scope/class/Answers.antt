@@ -2,7 +2,7 @@ use Rattle.std.proofs.Common.{◌≡◌, None, is_some, sym, ap, ◌∙◌, subs
 use Rattle.hhbc_repo.specs.Checks.{Tells}
 use Rattle.hhbc_repo.specs.LinkFaults.{Place, Whole, class_of}
 use Rattle.hhbc_repo.specs.declared.link_fault.LinkKind.TheVariants as kinds
-use Rattle.hhbc_repo.proofs.Passing.{check_told}
+use Rattle.hhbc_repo.proofs.Checking.{check_told}
 use Rattle.hhbc_repo.proofs.scope.Scope.class.Goals as goal
 
 pub returns-in-None : goal.returns-in-None

@@ -1,5 +1,5 @@
 use Rattle.hhbc_repo.specs.LinkFaults.{key_local, local_faults}
-use Rattle.hhbc_repo.proofs.Passing.{checks_first}
+use Rattle.hhbc_repo.proofs.Checking.{checks_first}
 use Rattle.hhbc_repo.proofs.scope.Scope.iterator_locals.Goals as goal
 
 pub returns-in-Err : goal.returns-in-Err

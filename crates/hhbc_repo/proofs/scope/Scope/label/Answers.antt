@@ -3,7 +3,7 @@ use Rattle.hhbc_repo.specs.Checks.{Tells}
 use Rattle.hhbc_repo.specs.LabelTables.{first_label}
 use Rattle.hhbc_repo.specs.LinkFaults.{Place, labels_of, names}
 use Rattle.hhbc_repo.specs.declared.link_fault.LinkKind.TheVariants as kinds
-use Rattle.hhbc_repo.proofs.Passing.{check_told, check_passes}
+use Rattle.hhbc_repo.proofs.Checking.{check_told, check_passes}
 use Rattle.hhbc_repo.proofs.LabelsFound.{unlabelled, labelled, label_place}
 use Rattle.hhbc_repo.proofs.scope.Scope.label.Goals as goal
 

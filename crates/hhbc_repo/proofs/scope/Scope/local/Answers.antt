@@ -3,7 +3,7 @@ use Rattle.hhbc_repo.specs.Checks.{Tells}
 use Rattle.hhbc_repo.specs.LinkFaults.{Place, place_in, locals_of, dollar, names}
 use Rattle.hhbc_repo.specs.declared.link_fault.LinkKind.TheVariants as kinds
 use Rattle.hhbc_repo.specs.Resolved.{or_zero}
-use Rattle.hhbc_repo.proofs.Passing.{check_told, check_passes}
+use Rattle.hhbc_repo.proofs.Checking.{check_told, check_passes}
 use Rattle.hhbc_repo.proofs.NumbersPut.{absent_names, there_names}
 use Rattle.hhbc_repo.proofs.scope.Scope.local.Goals as goal
 

@@ -3,7 +3,7 @@ use Rattle.std.specs.List.{flat_map}
 use Rattle.hhbc_repo.specs.Checks.{TellsFirst}
 use Rattle.hhbc_repo.specs.declared.parts.MemberKeyParts.{MemberKeyParts}
 use Rattle.hhbc_repo.specs.LinkFaults.{base_faults, key_faults, last_key}
-use Rattle.hhbc_repo.proofs.Passing.{checks_first, tells_then}
+use Rattle.hhbc_repo.proofs.Checking.{checks_first, tells_then}
 use Rattle.hhbc_repo.proofs.scope.Scope.member.Goals as goal
 
 pub returns-in-Err-keys : goal.returns-in-Err-keys

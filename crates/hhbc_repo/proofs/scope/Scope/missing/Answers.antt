@@ -2,7 +2,7 @@ use Rattle.std.proofs.Common.{subst, false, refl}
 use Rattle.hhbc_repo.specs.Checks.{Tells}
 use Rattle.hhbc_repo.specs.LinkFaults.{Place}
 use Rattle.hhbc_repo.specs.declared.link_fault.LinkKind.TheVariants as kinds
-use Rattle.hhbc_repo.proofs.Passing.{check_told}
+use Rattle.hhbc_repo.proofs.Checking.{check_told}
 use Rattle.hhbc_repo.proofs.scope.Scope.missing.Goals as goal
 
 pub returns : goal.returns

@@ -3,7 +3,7 @@ use Rattle.std.specs.List.{flat_map}
 use Rattle.hhbc_repo.specs.Checks.{TellsFirst}
 use Rattle.hhbc_repo.specs.declared.parts.AssertParts.{AssertParts}
 use Rattle.hhbc_repo.specs.LinkFaults.{assert_faults, code_faults}
-use Rattle.hhbc_repo.proofs.Passing.{checks_first}
+use Rattle.hhbc_repo.proofs.Checking.{checks_first}
 use Rattle.hhbc_repo.proofs.scope.Scope.position.Goals as goal
 
 pub returns-in-Err : goal.returns-in-Err
