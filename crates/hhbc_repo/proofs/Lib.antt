@@ -32,11 +32,9 @@ pub mod NoFaults
 pub mod DeclaredTree
 pub mod SoundLinks
 pub mod NamesMet
-pub mod ClassSteps
 pub mod WithinLimits
 mod FoundByName
 mod WaysUp
-pub mod MemberSteps
 pub mod BodyCounts
 pub mod KeptOnce
 pub mod SpelledTypes

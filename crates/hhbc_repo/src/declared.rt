@@ -1,6 +1,6 @@
 //! What classes declare, by name. A name may stand more than once: the first counts.
 
-ghost use Rattle.std.specs.Prelude.{◌≡◌, [], ◌∷◌, ◌++◌, OnOk, IfOk, MatchOption, None, Some, map, codes};
+ghost use Rattle.std.specs.Prelude.{◌≡◌, OnOk, IfOk, MatchOption, None, Some, map};
 ghost use Rattle.hhbc_repo.specs.FirstNumbers.{put};
 ghost use Rattle.hhbc_repo.specs.LinkFaults.{place_in, with_name};
 ghost use Rattle.hhbc_repo.specs.Once.{once};

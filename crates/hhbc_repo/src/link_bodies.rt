@@ -1,13 +1,13 @@
 //! Bodies are linked.
 
-ghost use Rattle.std.specs.Prelude.{◌≡◌, ◌++◌, [], IfOk, OnOk, length, option_map, nat_le};
+ghost use Rattle.std.specs.Prelude.{◌≡◌, ◌++◌, [], IfOk, length};
 ghost use Rattle.std.specs.List.{flat_map};
 ghost use Rattle.hhbc_repo.specs.declared.link_fault.LinkKind.TheVariants as kinds;
 ghost use Rattle.hhbc_repo.specs.BodyLimits.{InLimits};
 ghost use Rattle.hhbc_repo.specs.Checks.{Checks};
 ghost use Rattle.hhbc_repo.specs.LinkFaults as faults;
 ghost use Rattle.hhbc_repo.specs.LinkFaults.{Whole, as_it_is, body_faults, differ_from, dollar, labels_of, limit_faults, position_faults, positions_of, stated_faults};
-ghost use Rattle.hhbc_repo.specs.Resolved.{regions_from, resolved_body, resolved_item, resolved_type};
+ghost use Rattle.hhbc_repo.specs.Resolved.{regions_from, resolved_body, resolved_item};
 
 use crate::body::{Body, Position};
 use crate::distinct_names::{check_labels, check_locals};

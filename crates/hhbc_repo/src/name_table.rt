@@ -1,6 +1,6 @@
 //! Tables of names.
 
-ghost use Rattle.std.specs.Prelude.{◌≡◌, [], ◌∷◌, ◌++◌, OnOk, IfOk, IfSome, ◌<◌, length, map, true, false};
+ghost use Rattle.std.specs.Prelude.{◌≡◌, [], ◌∷◌, ◌++◌, OnOk, IfOk, map, true, false};
 ghost use Rattle.hhbc_repo.specs.LinkFaults.{names, place_in};
 ghost use Rattle.hhbc_repo.specs.Names.{distinct};
 ghost use Rattle.hhbc_repo.specs.Once.{added};

@@ -1,25 +1,45 @@
-use Rattle.std.proofs.Common.{take, sym, ap, ◌∙◌, subst}
-use Rattle.hhbc_repo.specs.Checks.{TellsFirst}
-use Rattle.hhbc_repo.specs.LinkFaults.{Whole, class_names, names, parent_faults}
-use Rattle.hhbc_repo.proofs.ClassSteps.{taken_stops, parent_stops, chain_ends}
+use Rattle.std.proofs.Common.{rules, ◌≡◌, ℕ, Bool, List, [], true, false, not, take, ap, subst, ◌++◌, nat_le}
+use Rattle.type_lattice.specs.Classes.{Tree, chain, has, parent_of}
+use Rattle.hhbc_repo.specs.Checks.{Checks, Tells, TellsFirst}
+use Rattle.hhbc_repo.specs.LinkFaults.{Name, Whole, above, check, class_names, different, names, parent_faults, parents}
+use Rattle.hhbc_repo.specs.declared.link_fault.LinkFault.{LinkFault}
+use Rattle.hhbc_repo.specs.declared.link_fault.LinkKind.TheVariants as kinds
+use Rattle.hhbc_repo.proofs.Checking.{check_passes, check_told, checks_first, checks_then, tells_then}
 use Rattle.hhbc_repo.proofs.class_checks.check_class.Goals as goal
+
+-- whether a class before this one has the name
+abbrev taken : Whole → ℕ → Name → Bool
+taken w n name = names (take n (class_names w)) name
+
+abbrev of_chain : Tree → ℕ → Name → List LinkFault
+of_chain tree n name =
+    check (not (has n (above tree (parent_of tree n)))) kinds.ClassCycle name name 0 ++ check (nat_le (different (chain tree n)) 64) kinds.ClassTooDeep name name 0
 
 pub returns-then-is_taken : goal.returns-then-is_taken
 returns-then-is_taken c =
-    let name = c.bytes-name.result.now in
-    let met = sym (ap (λ (v : Whole). names (take c.args.number (class_names v)) name) c.listed.ensures) ∙ sym c.is_taken.ensures ∙ c.if-is_taken.true in
-    taken_stops c.args.known.now c.args.number c.args.class.now name c.plain.result c.bytes-name.ensures met c.plain.ensures
+    let w = c.args.known.now in
+    let name = c.args.class.now.name in
+    let met : taken w c.args.number name ≡ true = search rules in
+    let told : Tells (record { kind = kinds.DuplicateName; owner = name; name = name; found = 0 }) c.plain.result = search rules in
+    checks_first _ _ c.plain.result (check_told (not (taken w c.args.number name)) kinds.DuplicateName name name 0 c.plain.result (ap not met) told)
 
 pub returns-in-Ok : goal.returns-in-Ok
 returns-in-Ok c =
-    let name = c.bytes-name.result.now in
-    let met = sym (ap (λ (v : Whole). names (take c.args.number (class_names v)) name) c.listed.ensures) ∙ sym c.is_taken.ensures ∙ c.if-is_taken.false in
-    let none = sym (ap (λ (v : Whole). parent_faults v name c.args.class.now.parent) c.listed-2.ensures) ∙ c.in-Ok.ensures.0 in
-    chain_ends c.args.known.now c.args.number c.args.class.now name c.parents.result.now c.check_chain.result c.bytes-name.ensures met none c.parents.ensures c.check_chain.ensures
+    let w = c.args.known.now in
+    let class = c.args.class.now in
+    let new : taken w c.args.number class.name ≡ false = search rules in
+    let parent : parent_faults w class.name class.parent ≡ [] = search rules in
+    let r = c.check_chain.result in
+    let chain : Checks (of_chain (parents w) c.args.number class.name) tt r =
+    subst (λ (n : Name). Checks (of_chain (parents w) c.args.number n) tt r) c.bytes-name.ensures
+    (subst (λ (t : Tree). Checks (of_chain t c.args.number c.bytes-name.result.now) tt r) c.parents.ensures c.check_chain.ensures) in
+    checks_then _ _ tt r (check_passes (not (taken w c.args.number class.name)) kinds.DuplicateName class.name class.name 0 (ap not new)) (checks_then _ _ tt r parent chain)
 
 pub returns-in-Err : goal.returns-in-Err
 returns-in-Err c =
-    let name = c.bytes-name.result.now in
-    let met = sym (ap (λ (v : Whole). names (take c.args.number (class_names v)) name) c.listed.ensures) ∙ sym c.is_taken.ensures ∙ c.if-is_taken.false in
-    let tells = subst (λ (v : Whole). TellsFirst (parent_faults v name c.args.class.now.parent) c.in-Err.error) c.listed-2.ensures c.in-Err.ensures in
-    parent_stops c.args.known.now c.args.number c.args.class.now name c.in-Err.error c.bytes-name.ensures met tells
+    let w = c.args.known.now in
+    let class = c.args.class.now in
+    let e = c.in-Err.error in
+    let new : taken w c.args.number class.name ≡ false = search rules in
+    let parent : TellsFirst (parent_faults w class.name class.parent) e = search rules in
+    tells_then _ _ e (check_passes (not (taken w c.args.number class.name)) kinds.DuplicateName class.name class.name 0 (ap not new)) (checks_first _ _ e parent)
