@@ -40,6 +40,13 @@ impl<T> Seq<T> {
         self.items.as_slice()
     }
 
+    /// Its items, so that they can be given away one by one.
+    pub fn into_vec(self) -> Vec<T>
+        ensures { result.items ≡ self }
+    {
+        self.items
+    }
+
     /// The item at a place, for writing; None where the place isn't below the length.
     pub fn get_mut(&mut self, at: usize) -> Option<&mut T>
         ensures* writes_back { sem 𝓛 (LendsIf (seq_row T.row) T.row self.entry result (λ w. slice_set self.old at w) self.old) }
