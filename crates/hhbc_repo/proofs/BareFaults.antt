@@ -1,10 +1,9 @@
 -- Where assertions and stated types pass the checks of linking, the checks of the parts without them are the same; and where no check
 -- fails, they pass.
-use Rattle.std.proofs.Common.{◌≡◌, ℕ, suc, ◌+◌, not, nat_le, List, [], ◌∷◌, ◌++◌, map, flat_map, take, length, codes, refl, sym, ap, ap₂, ◌∙◌}
+use Rattle.std.proofs.Common.{◌≡◌, ℕ, suc, ◌+◌, not, List, [], ◌∷◌, ◌++◌, map, flat_map, length, codes, refl, sym, ap, ap₂, ◌∙◌}
 use Rattle.std.proofs.lemmas.Grind.{flat_map-append}
 use Rattle.std.proofs.lemmas.List.{length-map}
 use Rattle.std.proofs.lemmas.Simd.{map-map}
-use Rattle.type_lattice.specs.Classes.{Tree, parent_of, chain, has}
 use Rattle.hhbc_ops.specs.declared.op.Op.{Op}
 use Rattle.hhbc_ops.specs.declared.op.Op.TheVariants as ops
 use Rattle.hhbc_repo.specs.declared.link_fault.LinkFault.{LinkFault}
@@ -19,8 +18,9 @@ use Rattle.hhbc_repo.specs.declared.parts.ImmParts.TheVariants as imms
 use Rattle.hhbc_repo.specs.declared.parts.PositionParts.{PositionParts}
 use Rattle.hhbc_repo.specs.declared.parts.PropertyParts.{PropertyParts}
 use Rattle.hhbc_repo.specs.declared.repo.Const.{Const}
-use Rattle.hhbc_repo.specs.LinkFaults.{Name, Whole, Place, names, as_it_is, dollar, check, within, class_of, above, ancestors, different, properties, along, differ_from, locals_of, positions_of, label_faults, stated_faults, assert_faults, operand_faults, constant_faults, method_faults, instruction_faults, code_faults, position_faults, body_faults, function_places, method_places, places, count_faults, repeated_functions, class_checks, property_checks, member_checks, each_class, first_class, faults}
-use Rattle.hhbc_repo.proofs.AlikeWholes.{place, places_called, of_class, class_same, class_faults_same, type_faults_same, parent_faults_same, constant_faults_same, method_faults_same, function_faults_same}
+use Rattle.hhbc_repo.specs.LinkFaults.{Name, Whole, Place, names, as_it_is, dollar, check, within, ancestors, properties, along, differ_from, locals_of, positions_of, label_faults, stated_faults, assert_faults, operand_faults, instruction_faults, code_faults, position_faults, body_faults, function_places, method_places, places, count_faults, repeated_functions, class_checks, property_checks, member_checks, each_class, first_class, faults}
+use Rattle.hhbc_repo.proofs.AlikeBodies.{body_checked, class_checked, member_checked}
+use Rattle.hhbc_repo.proofs.AlikeWholes.{place, places_called, of_class}
 use Rattle.hhbc_repo.proofs.BareWholes.{bare_position_parts, bare_parts, bare_property_parts, bare_class_parts, bare_whole, labels_bare, positions_bare, nesting_bare, bare_alike}
 use Rattle.hhbc_repo.proofs.BodyCounts.{places_start, methods_next}
 use Rattle.hhbc_repo.proofs.NoFaults.{empty_left, empty_right, none_fails, faultless}
@@ -40,24 +40,20 @@ module _ (w : Whole) (b : BodyParts) (owner : Name) where
   here = place w b owner
 
   abbrev there : Place
-  there = place (bare_whole w) (bare_parts b) owner
+  there = place w (bare_parts b) owner
 
   label_bare : (name : Name) → label_faults there name ≡ label_faults here name
   label_bare name = ap (λ (l : List Name). check (names l name) reasons.UnknownLabel owner name 0) (labels_bare b.items)
 
   operand_bare : (m : ImmParts) → operand_faults there m ≡ operand_faults here m
   operand_bare (imms.Pos name) = label_bare name
-  operand_bare (imms.Class name) = class_faults_same w (bare_whole w) (bare_alike w) owner name
-  operand_bare (imms.Constraint t) = type_faults_same w (bare_whole w) (bare_alike w) owner t
   operand_bare (imms.Arms xs) = λ i. flat_map (λ (a : ArmParts). label_bare a.target i) xs
   operand_bare m = refl
 
   instruction_bare : (op : Op) (ms : List ImmParts) → instruction_faults there op ms ≡ instruction_faults here op ms
-  instruction_bare ops.ClsCnsD (imms.Name name ∷ imms.Class class ∷ []) =
-      ap (constant_faults there name class) (class_same w (bare_whole w) (bare_alike w) class) ∙ constant_faults_same w (bare_whole w) (bare_alike w) b (bare_parts b) owner name class (class_of w class)
-  instruction_bare ops.FCallClsMethodD (imms.Count n ∷ imms.Name name ∷ imms.Class class ∷ []) =
-      ap (method_faults there name class n) (class_same w (bare_whole w) (bare_alike w) class) ∙ method_faults_same w (bare_whole w) (bare_alike w) b (bare_parts b) owner name class n (class_of w class)
-  instruction_bare ops.FCallFuncD (imms.Count n ∷ imms.Name name ∷ []) = function_faults_same w (bare_whole w) (bare_alike w) b (bare_parts b) owner name n
+  instruction_bare ops.ClsCnsD (imms.Name name ∷ imms.Class class ∷ []) = refl
+  instruction_bare ops.FCallClsMethodD (imms.Count n ∷ imms.Name name ∷ imms.Class class ∷ []) = refl
+  instruction_bare ops.FCallFuncD (imms.Count n ∷ imms.Name name ∷ []) = refl
   instruction_bare op ms = λ i. flat_map (λ (m : ImmParts). operand_bare m i) ms
 
   code_bare : (c : CodeParts) → code_faults there c ≡ code_faults here c
@@ -78,10 +74,12 @@ module _ (w : Whole) (b : BodyParts) (owner : Name) where
       let positions : flat_map (position_faults there) (positions_of (bare_parts b)) ≡ flat_map (position_faults here) (positions_of b) =
       ap (flat_map (position_faults there)) (positions_bare b.items) ∙ each_bare (positions_of b) c.asserts in
       let stated : [] ≡ stated_faults w owner b.stated = sym c.stated in
+      let claims : body_faults there ≡ body_faults here =
       λ i. (within 255 (length (locals_of b)) owner (codes "locals")
       ++ (within 32 b.iters owner (codes "iterators") ++ (within 65535 (count i) owner (codes "positions") ++ within 64 (nesting_bare 0 b.items i) owner (codes "nesting"))))
       ++ (differ_from reasons.DuplicateName owner dollar [] (locals_of b)
-      ++ (differ_from reasons.DuplicateLabel owner as_it_is [] (labels_bare b.items i) ++ (stated i ++ positions i)))
+      ++ (differ_from reasons.DuplicateLabel owner as_it_is [] (labels_bare b.items i) ++ (stated i ++ positions i))) in
+      body_checked w (bare_whole w) (bare_alike w) (bare_parts b) owner ∙ claims
 
   asserts_pass : (qs : List PositionParts) → flat_map (position_faults here) qs ≡ [] → asserts_faults here qs ≡ []
   asserts_pass [] e = refl
@@ -124,7 +122,7 @@ ClassesClaimsPass w [] = Unit {0}
 ClassesClaimsPass w (c ∷ cs) = (properties_faults w c.name c.props ≡ []) × BodiesClaimsPass w (of_class c) c.methods × ClassesClaimsPass w cs
 
 properties_bare : (w : Whole) (owner : Name) (before : List Name) (ps : List PropertyParts) → properties_faults w owner ps ≡ []
-    → property_checks (bare_whole w) owner before (map bare_property_parts ps) ≡ property_checks w owner before ps
+    → property_checks w owner before (map bare_property_parts ps) ≡ property_checks w owner before ps
 properties_bare w owner before [] e = refl
 properties_bare w owner before (p ∷ ps) e =
     let now = stated_faults w owner p.stated in
@@ -140,28 +138,17 @@ properties_claims w owner before (p ∷ ps) e =
     let rest = empty_right apart (now ++ later) e in
     ap₂ (λ (x y : List LinkFault). x ++ y) (empty_left now later rest) (properties_claims w owner (before ++ p.name ∷ []) ps (empty_right now later rest))
 
-class_bare : (w : Whole) (n : ℕ) (c : ClassParts) → class_checks (bare_whole w) n (bare_class_parts c) ≡ class_checks w n c
-class_bare w n c =
-    let alike = bare_alike w in
-    λ i. check (not (names (take n (alike.names_same i)) c.name)) reasons.DuplicateName c.name c.name 0
-    ++ (parent_faults_same w (bare_whole w) alike c.name c.parent i
-    ++ (check (not (has n (above (alike.tree_same i) (parent_of (alike.tree_same i) n)))) reasons.ClassCycle c.name c.name 0
-    ++ check (nat_le (different (chain (alike.tree_same i) n)) 64) reasons.ClassTooDeep c.name c.name 0))
-
 classes_bare : (w : Whole) (n : ℕ) (cs : List ClassParts) → each_class (class_checks (bare_whole w)) n (map bare_class_parts cs) ≡ each_class (class_checks w) n cs
 classes_bare w n [] = refl
-classes_bare w n (c ∷ cs) = ap₂ (λ (x y : List LinkFault). x ++ y) (class_bare w n c) (classes_bare w (suc n) cs)
+classes_bare w n (c ∷ cs) = ap₂ (λ (x y : List LinkFault). x ++ y) (class_checked w (bare_whole w) (bare_alike w) n (bare_class_parts c)) (classes_bare w (suc n) cs)
 
 member_bare : (w : Whole) (n : ℕ) (c : ClassParts) → properties_faults w c.name c.props ≡ [] → member_checks (bare_whole w) n (bare_class_parts c) ≡ member_checks w n c
 member_bare w n c e =
-    let alike = bare_alike w in
     let consts = differ_from reasons.DuplicateName c.name as_it_is [] (map (λ (k : Const). k.name) c.consts) in
-    let inherited : along (properties (bare_whole w)) (ancestors (bare_whole w) n) ≡ along (properties w) (ancestors w n) =
-    ap₂ (λ (t : List (List Name)) (r : Tree). along t (above r (parent_of r n))) alike.properties_same alike.tree_same in
+    let claims : member_checks w n (bare_class_parts c) ≡ member_checks w n c =
     ap₂ (λ (props : List LinkFault) (ms : List Name). consts ++ (props ++ differ_from reasons.DuplicateName c.name as_it_is [] ms))
-    (ap (λ (before : List Name). property_checks (bare_whole w) c.name before (map bare_property_parts c.props)) inherited
-    ∙ properties_bare w c.name (along (properties w) (ancestors w n)) c.props e)
-    (map-map (λ (b : BodyParts). b.name) bare_parts c.methods)
+    (properties_bare w c.name (along (properties w) (ancestors w n)) c.props e) (map-map (λ (b : BodyParts). b.name) bare_parts c.methods) in
+    member_checked w (bare_whole w) (bare_alike w) n (bare_class_parts c) ∙ claims
 
 members_bare : (w : Whole) (n : ℕ) (cs : List ClassParts) → ClassesClaimsPass w cs → each_class (member_checks (bare_whole w)) n (map bare_class_parts cs) ≡ each_class (member_checks w) n cs
 members_bare w n [] c = refl

@@ -1,12 +1,10 @@
 -- Parts without assertions and stated types: they have the same labels, nesting and regions, are alike, are the canonical parts of the
 -- repository without them, and link to it.
-use Rattle.std.proofs.Common.{◌≡◌, ℕ, zero, suc, ◌+◌, Bool, true, false, ◌&&◌, nat_le, List, [], ◌∷◌, ◌++◌, map, flat_map, take, length, max, slice_get, Option, Some, None, option_map, codes, refl, sym, ap, ap₂, ◌∙◌, replicate}
+use Rattle.std.proofs.Common.{◌≡◌, ℕ, zero, suc, ◌+◌, Bool, true, false, ◌&&◌, nat_le, List, [], ◌∷◌, ◌++◌, map, flat_map, take, max, Option, Some, None, option_map, refl, sym, ap, ap₂, ◌∙◌, replicate}
 use Rattle.std.specs.Prelude.{if◌then◌else◌, nat_eq}
 use Rattle.std.specs.List.{list_any}
 use Rattle.std.proofs.lemmas.List.{length-map, map-append}
-use Rattle.std.proofs.lemmas.Option.{slice_get-map}
 use Rattle.std.proofs.lemmas.Simd.{map-map}
-use Rattle.type_lattice.specs.Classes.{Tree}
 use Rattle.type_lattice.specs.TypeText.{named}
 use Rattle.hhbc_repo.specs.declared.body.Body.{Body}
 use Rattle.hhbc_repo.specs.declared.body.Position.{Position}
@@ -16,7 +14,6 @@ use Rattle.hhbc_repo.specs.declared.code.Code.TheVariants as coded
 use Rattle.hhbc_repo.specs.declared.code.Imm.{Imm}
 use Rattle.hhbc_repo.specs.declared.code.Imm.TheVariants as linked
 use Rattle.hhbc_repo.specs.declared.repo.Class.{Class}
-use Rattle.hhbc_repo.specs.declared.repo.Const.{Const}
 use Rattle.hhbc_repo.specs.declared.repo.Property.{Property}
 use Rattle.hhbc_repo.specs.declared.parts.ArmParts.{ArmParts}
 use Rattle.hhbc_repo.specs.declared.parts.BodyParts.{BodyParts}
@@ -33,12 +30,13 @@ use Rattle.hhbc_repo.specs.Bare.{bare_position, bare_body, bare_property, bare_c
 use Rattle.hhbc_repo.specs.Bodies.{built_in_names, built_in_tree}
 use Rattle.hhbc_repo.specs.Bodies as repository
 use Rattle.hhbc_repo.specs.Codes.{labels}
-use Rattle.hhbc_repo.specs.Canonical.{targets, is_named, named_before, label_at, label_called, label_name, label_item, turns, before, canonical_arm, canonical_operand, canonical_code, canonical_position, items_from, canonical_body, canonical_property, canonical_class, canonical}
+use Rattle.hhbc_repo.specs.Canonical.{targets, is_named, named_before, label_at, label_called, label_name, label_item, turns, before, canonical_operand, canonical_code, canonical_position, items_from, canonical_body, canonical_property, canonical_class, canonical}
 use Rattle.hhbc_repo.specs.Fits.{Open, InTry, InCatch, nests}
 use Rattle.hhbc_repo.specs.Linked.{Linked}
-use Rattle.hhbc_repo.specs.LinkFaults.{Name, Whole, is_name, place_in, class_names, parent_in, parents, property_names, methods, at_class, along, with_name, label_of, position_in, nesting_from}
+use Rattle.hhbc_repo.specs.LinkFaults.{Name, Whole, place_in, label_of, position_in, nesting_from}
 use Rattle.hhbc_repo.specs.Resolved.{label_here, label_from, catch_from, end_from, regions_from, resolved_arm, resolved_operand, resolved_code, resolved_item, resolved_body, resolved_property, resolved_class, resolved}
-use Rattle.hhbc_repo.proofs.AlikeWholes.{Alike, parameters, parent_named, number_same, parent_same, type_same}
+use Rattle.hhbc_repo.proofs.AlikeWholes.{Alike, number_same, parent_same, type_same}
+use Rattle.hhbc_repo.proofs.OtherBodies.{made_alike}
 
 abbrev pub bare_position_parts : PositionParts → PositionParts
 bare_position_parts q = record { asserts = []; code = q.code }
@@ -137,61 +135,17 @@ nests_bare (items.End ∷ is) os wants = refl
 
 -- ---- the whole is alike
 
-found_when : (c : Bool) (b : BodyParts) (o p : Option BodyParts) → p ≡ option_map bare_parts o → (if c then Some (bare_parts b) else p) ≡ option_map bare_parts (if c then Some b else o)
-found_when true b o p e = refl
-found_when false b o p e = e
-
-found_bare : (bs : List BodyParts) (name : Name) → with_name (map bare_parts bs) name ≡ option_map bare_parts (with_name bs name)
-found_bare [] name = refl
-found_bare (b ∷ bs) name = found_when (is_name name b.name) b (with_name bs name) (with_name (map bare_parts bs) name) (found_bare bs name)
-
-same_parameters : (o : Option BodyParts) → option_map parameters (option_map bare_parts o) ≡ option_map parameters o
-same_parameters None = refl
-same_parameters (Some b) = refl
-
-methods_bare : (cs : List ClassParts) → map (λ (c : ClassParts). c.methods) (map bare_class_parts cs) ≡ map (map bare_parts) (map (λ (c : ClassParts). c.methods) cs)
-methods_bare [] = refl
-methods_bare (c ∷ cs) = ap (λ (l : List (List BodyParts)). map bare_parts c.methods ∷ l) (methods_bare cs)
-
-all_bare : (w : Whole) → methods (bare_whole w) ≡ map (map bare_parts) (methods w)
-all_bare w = ap (λ (l : List (List BodyParts)). map (λ (n : Name). []) built_in_names ++ l) (methods_bare w.classes)
-
-at_class_bare : (o : Option (List BodyParts)) → at_class (option_map (map bare_parts) o) ≡ map bare_parts (at_class o)
-at_class_bare None = refl
-at_class_bare (Some bs) = refl
-
-along_bare : (table : List (List BodyParts)) (cs : List ℕ) → along (map (map bare_parts) table) cs ≡ map bare_parts (along table cs)
-along_bare table [] = refl
-along_bare table (c ∷ cs) =
-    ap₂ (λ (x y : List BodyParts). x ++ y) (ap at_class (slice_get-map (map bare_parts) table c) ∙ at_class_bare (slice_get table c)) (along_bare table cs)
-    ∙ sym (map-append bare_parts (at_class (slice_get table c)) (along table cs))
-
-properties_bare : (cs : List ClassParts) → map property_names (map bare_class_parts cs) ≡ map property_names cs
-properties_bare [] = refl
-properties_bare (c ∷ cs) = ap₂ (λ (x : List Name) (xs : List (List Name)). x ∷ xs) (map-map (λ (p : PropertyParts). p.name) bare_property_parts c.props) (properties_bare cs)
-
-names_bare : (w : Whole) → class_names (bare_whole w) ≡ class_names w
-names_bare w = ap (λ (l : List Name). built_in_names ++ l) (map-map (λ (c : ClassParts). c.name) bare_class_parts w.classes)
-
-parents_bare : (w : Whole) → parents (bare_whole w) ≡ parents w
-parents_bare w =
-    let same : map (λ (c : ClassParts). parent_in (bare_whole w) c.parent) w.classes ≡ map (λ (c : ClassParts). parent_in w c.parent) w.classes =
-    λ i. map (λ (c : ClassParts). parent_named w (bare_whole w) (names_bare w) c.parent i) w.classes in
-    ap (λ (l : Tree). built_in_tree ++ l) (map-map (λ (c : ClassParts). parent_in (bare_whole w) c.parent) bare_class_parts w.classes ∙ same)
-
 pub bare_alike : (w : Whole) → Alike w (bare_whole w)
-bare_alike w = record {
-  names_same = names_bare w;
-  tree_same = parents_bare w;
-  constants_same = ap (λ (l : List (List Name)). map (λ (n : Name). []) built_in_names ++ l) (map-map (λ (c : ClassParts). map (λ (k : Const). k.name) c.consts) bare_class_parts w.classes);
-  properties_same = ap (λ (l : List (List Name)). ((codes "message" ∷ []) ∷ map (λ (n : Name). []) (take 5 built_in_names)) ++ l) (properties_bare w.classes);
-  functions_same = λ name. ap (option_map parameters) (found_bare w.functions name) ∙ same_parameters (with_name w.functions name);
-  methods_same = λ cs name.
-      ap (λ (t : List (List BodyParts)). option_map parameters (with_name (along t cs) name)) (all_bare w)
-      ∙ ap (λ (l : List BodyParts). option_map parameters (with_name l name)) (along_bare (methods w) cs)
-      ∙ ap (option_map parameters) (found_bare (along (methods w) cs) name)
-      ∙ same_parameters (with_name (along (methods w) cs) name);
-}
+bare_alike w = made_alike bare_parts bare_class_parts
+    (record {
+      body_name = λ b. refl;
+      body_params = λ b. refl;
+      class_name = λ c. refl;
+      class_parent = λ c. refl;
+      class_consts = λ c. refl;
+      class_props = λ c. map-map (λ (p : PropertyParts). p.name) bare_property_parts c.props;
+      class_methods = λ c. refl;
+    }) w
 
 -- ---- what the parts link to
 

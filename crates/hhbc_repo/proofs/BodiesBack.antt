@@ -22,7 +22,8 @@ use Rattle.hhbc_repo.proofs.LabelsBack.{label_back, label_fits, label_listed, la
 use Rattle.hhbc_repo.proofs.TypesBack.{stated_back}
 use Rattle.hhbc_repo.proofs.NoFaults.{empty_left, empty_right, Faultless, faultless}
 use Rattle.hhbc_repo.proofs.PartsThatFit.{BodyFits, body_facts, body_from}
-use Rattle.hhbc_repo.proofs.RelabelledPositions.{Renamed, none_both, positions_fit_still, positions_faultless, positions_resolve}
+use Rattle.hhbc_repo.proofs.Checking.{both_pass}
+use Rattle.hhbc_repo.proofs.RelabelledPositions.{Renamed, positions_fit_still, positions_faultless, positions_resolve}
 use Rattle.hhbc_repo.proofs.RelaidWholes.{relaid_items, relaid_body, relaid, relaid_alike}
 use Rattle.hhbc_repo.proofs.WithinLimits.{limits_hold}
 
@@ -32,8 +33,8 @@ faultless_with p f =
     let labels = differ_from reasons.DuplicateLabel p.owner as_it_is [] (labels_of p.body) in
     let stated = stated_faults p.whole p.owner p.body.stated in
     let each = flat_map (position_faults p) (positions_of p.body) in
-    none_both (limit_faults p) (locals ++ (labels ++ (stated ++ each))) f.limits
-    (none_both locals (labels ++ (stated ++ each)) f.locals (none_both labels (stated ++ each) f.labels (none_both stated each f.stated f.positions)))
+    both_pass (limit_faults p) (locals ++ (labels ++ (stated ++ each))) f.limits
+    (both_pass locals (labels ++ (stated ++ each)) f.locals (both_pass labels (stated ++ each) f.labels (both_pass stated each f.stated f.positions)))
 
 -- ---- a body
 

@@ -28,12 +28,6 @@ pub item_tells : {X : Type 0} (F : List X → List LinkFault) (f : X → List Li
     → ByItem F f → i < length xs → x ≡ get_or xs i d → F xs ≡ F (drop i xs) → TellsFirst (f x) e → TellsFirst (F xs) e
 item_tells F f xs i x d e step h is left told = loop_tells F xs i x d (f x) (F (drop (i + 1) xs)) (F xs) e h is (sym left) (step x (drop (i + 1) xs)) told
 
--- where they pass, it comes to the others
-pub item_passes : {X : Type 0} (F : List X → List LinkFault) (f : X → List LinkFault) (xs : List X) (i : ℕ) (x d : X)
-    → ByItem F f → i < length xs → x ≡ get_or xs i d → F xs ≡ F (drop i xs) → f x ≡ [] → F xs ≡ F (drop (i + 1) xs)
-item_passes F f xs i x d step h is left none =
-    next F xs i x d (F xs) h is (sym left) ∙ step x (drop (i + 1) xs) ∙ ap (λ (l : List LinkFault). l ++ F (drop (i + 1) xs)) none
-
 -- what a loop made of the items that it went over
 pub collected : {X Y : Type 0} (g : X → Y) (xs : List X) (i : ℕ) (x d : X) (before after : List Y) (y : Y)
     → i < length xs → x ≡ get_or xs i d → before ≡ map g (take i xs) → after ≡ before ++ y ∷ [] → y ≡ g x → after ≡ map g (take (i + 1) xs)

@@ -22,7 +22,7 @@ use Rattle.hhbc_repo.proofs.BodiesBack.{BodyBack, body_back}
 use Rattle.hhbc_repo.proofs.TypesBack.{name_at_place, stated_back}
 use Rattle.hhbc_repo.proofs.NoFaults.{empty_left, empty_right, passes}
 use Rattle.hhbc_repo.proofs.PartsThatFit.{class_facts, class_from}
-use Rattle.hhbc_repo.proofs.RelabelledPositions.{none_both}
+use Rattle.hhbc_repo.proofs.Checking.{both_pass}
 use Rattle.hhbc_repo.proofs.RelaidWholes.{relaid_body, relaid_class, relaid, relaid_alike}
 
 -- ---- bodies
@@ -38,7 +38,7 @@ one_more w called b bs one more = record {
   same = λ i. one.same i ∷ more.same i;
   fit = and_from (body_fits (relaid_body w b)) (list_all body_fits (map (relaid_body w) bs)) one.fits more.fit;
   resolve = λ i. one.resolves i ∷ more.resolve i;
-  pass = none_both (body_faults (place (relaid w) (relaid_body w b) (called b.name))) (flat_map body_faults (places_called (relaid w) called (map (relaid_body w) bs))) one.passes more.pass;
+  pass = both_pass (body_faults (place (relaid w) (relaid_body w b) (called b.name))) (flat_map body_faults (places_called (relaid w) called (map (relaid_body w) bs))) one.passes more.pass;
 }
 
 pub all_back : (w : Whole) (called : Name → Name) (bs : List BodyParts) → list_all body_fits bs ≡ true → flat_map body_faults (places_called w called bs) ≡ [] → AllBack w called bs
@@ -138,7 +138,7 @@ one_class_more w c cs one more =
       same = λ i. one.same i ∷ more.same i;
       fit = and_from (class_fits (relaid_class w c)) (list_all class_fits (map (relaid_class w) cs)) one.fits more.fit;
       resolve = λ i. one.resolves i ∷ more.resolve i;
-      pass = flat_map-append body_faults now later ∙ none_both (flat_map body_faults now) (flat_map body_faults later) one.pass more.pass;
+      pass = flat_map-append body_faults now later ∙ both_pass (flat_map body_faults now) (flat_map body_faults later) one.pass more.pass;
     }
 
 pub classes_back : (w : Whole) (n : ℕ) (cs : List ClassParts) → list_all class_fits cs ≡ true → each_class (class_checks w) n cs ≡ [] → each_class (member_checks w) n cs ≡ []

@@ -9,7 +9,7 @@ use Rattle.hhbc_repo.specs.LinkFaults.{Name, Whole, class_names, parent_in, pare
 use Rattle.hhbc_repo.proofs.ChainLaws.{climb_in_chain}
 use Rattle.hhbc_repo.proofs.Inherited.{behind, built_in_parent}
 use Rattle.hhbc_repo.proofs.NoFaults.{class_at_place, class_passes}
-use Rattle.hhbc_repo.proofs.Numbered.{place-within}
+use Rattle.hhbc_repo.proofs.NumbersPut.{place_inside}
 
 pub class_names_length : (w : Whole) → length (class_names w) ≡ 6 + length w.classes
 class_names_length w = let k = length-map w.classes (λ (c : ClassParts). c.name) in omega (arith, k)
@@ -39,7 +39,7 @@ declared w c p low e = go (slice_get w.classes (c - 6)) refl
 named_inside : (w : Whole) (name : Option Name) (p : ℕ) → parent_in w name ≡ Some p → p < length (parents w)
 named_inside w None p e = absurd (cc)
 named_inside w (Some name) p e =
-    let k = place-within (class_names w) name p e in
+    let k = place_inside (class_names w) name p e in
     let m = class_names_length w in
     let l = parents_length w in
     omega (arith, k, m, l)

@@ -3,14 +3,14 @@ use Rattle.std.proofs.Common.{◌≡◌, ◌<◌, ◌+◌, ℕ, suc, Bool, true,
 use Rattle.std.proofs.lemmas.List.{get_or-map, length-map}
 use Rattle.std.proofs.lemmas.Option.{slice_get-map}
 use Rattle.std.proofs.Math.Seq.{drop-cons}
-use Rattle.std.proofs.lemmas.List.Quantifiers.{position-Some}
 use Rattle.hhbc_repo.specs.declared.parts.BodyParts.{BodyParts}
 use Rattle.hhbc_repo.specs.declared.parts.ClassParts.{ClassParts}
 use Rattle.hhbc_repo.specs.declared.repo.Const.{Const}
 use Rattle.hhbc_repo.specs.LinkFaults.{Name, Whole, is_name, names, place_in, with_name, at_class, along, constants, properties, property_names}
 use Rattle.hhbc_repo.specs.FirstNumbers.{Numbers, put, Finds}
 use Rattle.hhbc_repo.specs.Once.{added, added_all, once, constant_tables, property_tables}
-use Rattle.hhbc_repo.proofs.NumbersPut.{same_name, place_step, next_finds}
+use Rattle.hhbc_repo.proofs.GivenAway.{given_made}
+use Rattle.hhbc_repo.proofs.NumbersPut.{same_name, place_inside, place_step, next_finds}
 
 -- ---- names kept once
 
@@ -94,19 +94,12 @@ along_properties w cs q =
 
 -- ---- lists that grow by one for each
 
-appended : {B : Type 0} (xs : List B) (y : B) (ys : List B) → (xs ++ y ∷ []) ++ ys ≡ xs ++ y ∷ ys
-appended [] y ys = refl
-appended (x ∷ xs) y ys = ap (λ l. x ∷ l) (appended xs y ys)
-
 pub next_listed : {A B : Type 0} (f : A → B) (all whole new : List B) (xs : List A) (i : ℕ) (x : A) (y : B) → i < length xs → x ≡ get_or xs i x → y ≡ f x → new ≡ all ++ y ∷ []
     → all ++ map f (drop i xs) ≡ whole → new ++ map f (drop (i + 1) xs) ≡ whole
 next_listed f all whole new xs i x y inside at is e old =
     let one : suc i ≡ i + 1 = omega arith in
     let left : drop i xs ≡ x ∷ drop (i + 1) xs = rw (sym one) (drop-cons xs i x inside ∙ ap (λ z. z ∷ drop (suc i) xs) (sym at)) in
-    ap (λ l. l ++ map f (drop (i + 1) xs)) (e ∙ ap (λ z. all ++ z ∷ []) is)
-    ∙ appended all (f x) (map f (drop (i + 1) xs))
-    ∙ ap (λ l. all ++ map f l) (sym left)
-    ∙ old
+    given_made f whole (drop i xs) (drop (i + 1) xs) x all new y left old e is
 
 -- ---- bodies found by name
 
@@ -131,7 +124,7 @@ with_place (b ∷ bs) name =
     go false (Some i) = refl
 
 pub body_within : (bs : List BodyParts) (name : Name) (i : ℕ) → place_in (body_names bs) name ≡ Some i → i < length bs
-body_within bs name i e = subst (λ n. i < n) (length-map bs (λ (b : BodyParts). b.name)) (position-Some (is_name name) (body_names bs) i [] e).0
+body_within bs name i e = subst (λ n. i < n) (length-map bs (λ (b : BodyParts). b.name)) (place_inside (body_names bs) name i e)
 
 pub with_append_some : (xs ys : List BodyParts) (q : Name) (b : BodyParts) → with_name xs q ≡ Some b → with_name (xs ++ ys) q ≡ Some b
 with_append_some [] ys q b e = absurd (cc)

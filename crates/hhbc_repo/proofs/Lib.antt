@@ -59,6 +59,10 @@ pub mod TypesParted
 pub mod TypesWritten
 pub mod TypesClear
 pub mod AlikeWholes
+pub mod OtherBodies
+pub mod AlikeBodies
+mod Outlined
+mod GivenAway
 pub mod RelabelledPositions
 pub mod RelaidWholes
 pub mod CanonicalItems

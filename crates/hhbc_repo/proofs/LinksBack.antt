@@ -20,7 +20,7 @@ use Rattle.hhbc_repo.proofs.AlikeWholes.{parent_faults_same, property_checks_sam
 use Rattle.hhbc_repo.proofs.BodyCounts.{places_start, methods_next}
 use Rattle.hhbc_repo.proofs.ClassesBack.{AllBack, all_back, ClassesBack, classes_back}
 use Rattle.hhbc_repo.proofs.NoFaults.{NoneFails, none_fails}
-use Rattle.hhbc_repo.proofs.RelabelledPositions.{none_both}
+use Rattle.hhbc_repo.proofs.Checking.{both_pass}
 use Rattle.hhbc_repo.proofs.RelaidWholes.{relaid_body, relaid_class, relaid, relaid_alike}
 use Rattle.hhbc_repo.proofs.SoundLinks.{linked_class_names}
 
@@ -83,10 +83,10 @@ passes_with w p =
     let rest = flat_map body_faults (places w) in
     let bodies = flat_map body_faults (function_places w) in
     let methods = flat_map body_faults (flat_map (method_places w) w.classes) in
-    none_both (count_faults w) (functions ++ (classes ++ (members ++ rest))) p.counts
-    (none_both functions (classes ++ (members ++ rest)) p.functions
-    (none_both classes (members ++ rest) p.classes
-    (none_both members rest p.members (flat_map-append body_faults (function_places w) (flat_map (method_places w) w.classes) ∙ none_both bodies methods p.bodies p.methods))))
+    both_pass (count_faults w) (functions ++ (classes ++ (members ++ rest))) p.counts
+    (both_pass functions (classes ++ (members ++ rest)) p.functions
+    (both_pass classes (members ++ rest) p.classes
+    (both_pass members rest p.members (flat_map-append body_faults (function_places w) (flat_map (method_places w) w.classes) ∙ both_pass bodies methods p.bodies p.methods))))
 
 -- canonical parts, given the names of all classes
 abbrev canonical_with : List Name → Whole → Whole

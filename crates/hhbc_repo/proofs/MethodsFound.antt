@@ -11,7 +11,8 @@ use Rattle.hhbc_repo.specs.Linked.{Linked}
 use Rattle.hhbc_repo.specs.LinkFaults.{Name, is_name, place_in, first_class}
 use Rattle.hhbc_repo.specs.Bodies.{bodies, numbers, tree_of}
 use Rattle.hhbc_repo.specs.LookUps.{IsMethodOf, all_methods, first_some, function_names, method_names, method_of, methods_in, no_names, number_at, or_else, own_number, owners, owners_from}
-use Rattle.hhbc_repo.proofs.Numbered.{numbers-get, place-within}
+use Rattle.hhbc_repo.proofs.Numbered.{numbers-get}
+use Rattle.hhbc_repo.proofs.NumbersPut.{place_inside}
 use Rattle.hhbc_repo.proofs.NumbersPut.{same_name}
 use Rattle.hhbc_repo.proofs.ShapeTables.{before_last, from_map, to_map}
 
@@ -44,7 +45,7 @@ module _ (name : Name) where
   here first base c cs n None e h = absurd (cc)
   here first base c cs n (Some p) e h =
       let m = named_at c.methods p e in
-      let g = numbers-get first (length (function_names c.methods)) p (place-within (function_names c.methods) name p e) in
+      let g = numbers-get first (length (function_names c.methods)) p (place_inside (function_names c.methods) name p e) in
       let i : Some (first + p) ≡ Some n = sym g ∙ h in
       record {
         at = p;

@@ -1,5 +1,5 @@
 -- Names that are met among others.
-use Rattle.std.proofs.Common.{◌≡◌, ℕ, zero, suc, true, false, Some, None, take, nat_lt, ◌<◌, ◌+◌, List, [], ◌∷◌, ◌++◌, map, length, drop, get_or, refl, sym, ap, ◌∙◌, not, is_some, append_assoc, arith}
+use Rattle.std.proofs.Common.{◌≡◌, ℕ, zero, suc, true, false, Some, None, take, nat_lt, ◌<◌, ◌+◌, List, [], ◌∷◌, ◌++◌, map, length, drop, get_or, refl, sym, ap, ◌∙◌, not, append_assoc, arith}
 use Rattle.std.proofs.lemmas.List.{append-nil}
 use Rattle.hhbc_repo.specs.declared.link_fault.LinkFault.{LinkFault}
 use Rattle.hhbc_repo.specs.declared.link_fault.LinkKind.{LinkKind}
@@ -8,10 +8,6 @@ use Rattle.hhbc_repo.specs.Checks.{TellsFirst}
 use Rattle.hhbc_repo.specs.LinkFaults.{Name, names, place_in, check, differ_from}
 use Rattle.hhbc_repo.proofs.CheckLoops.{loop_tells}
 use Rattle.hhbc_repo.proofs.NumbersPut.{place_step}
-
-pub found_names : (all : List Name) (name : Name) → is_some (place_in all name) ≡ names all name
-found_names [] name = refl
-found_names (n ∷ ns) name = grind (arith, found_names ns name)
 
 -- the next of what is left has a name that was met
 pub differ_stops : {X : Type 0} (kind : LinkKind) (owner : Name) (spelled : Name → Name) (name_of : X → Name) (seen : List Name) (xs : List X) (i : ℕ) (x d : X)

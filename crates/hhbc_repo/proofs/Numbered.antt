@@ -1,5 +1,5 @@
 -- The numbers of what classes declare, by the number of each class's first.
-use Rattle.std.proofs.Common.{◌≡◌, ◌<◌, ◌≤◌, ◌^◌, ℕ, zero, suc, ◌+◌, List, [], ◌∷◌, ◌++◌, refl, ap, sym, ◌∙◌, Option, Some, None, slice_get, map, length, arith, subst, option_map, replicate, true, append_assoc}
+use Rattle.std.proofs.Common.{◌≡◌, ◌<◌, ◌≤◌, ◌^◌, ℕ, zero, suc, ◌+◌, List, [], ◌∷◌, ◌++◌, refl, ap, sym, ◌∙◌, Option, Some, slice_get, map, length, arith, subst, option_map, replicate, true, append_assoc}
 use Rattle.std.proofs.lemmas.Bool.{and_parts}
 use Rattle.std.proofs.lemmas.Option.{slice_get-map}
 use Rattle.std.proofs.lemmas.List.{map-append}
@@ -8,9 +8,9 @@ use Rattle.hhbc_repo.specs.declared.members.Row.{Row}
 use Rattle.hhbc_repo.specs.declared.repo.Class.{Class}
 use Rattle.hhbc_repo.specs.Names.{distinct}
 use Rattle.hhbc_repo.specs.Bodies.{numbers, own_from}
-use Rattle.std.proofs.lemmas.List.Quantifiers.{position-Some}
-use Rattle.hhbc_repo.specs.LinkFaults.{is_name, place_in, at_class}
+use Rattle.hhbc_repo.specs.LinkFaults.{place_in, at_class}
 use Rattle.hhbc_repo.specs.LookUps.{total, own_number, number_at}
+use Rattle.hhbc_repo.proofs.NumbersPut.{place_inside}
 use Rattle.hhbc_repo.specs.Members.{starts, names_of, Counted}
 
 pub numbers-get : (s n p : ℕ) → p < n → slice_get (numbers s n) p ≡ Some (s + p)
@@ -38,9 +38,6 @@ row-bound s (r ∷ rows) (suc d) row e h = let b = row-bound (s + length r.names
 
 pub row-names : (rows : List Row) (d : ℕ) (row : Row) → slice_get rows d ≡ Some row → slice_get (names_of rows) d ≡ Some row.names
 row-names rows d row h = slice_get-map (λ (r : Row). r.names) rows d ∙ ap (option_map (λ (r : Row). r.names)) h
-
-pub no-row : (rows : List Row) (d : ℕ) → slice_get rows d ≡ None → slice_get (names_of rows) d ≡ None
-no-row rows d h = slice_get-map (λ (r : Row). r.names) rows d ∙ ap (option_map (λ (r : Row). r.names)) h
 
 pub total_append : (xs : List (List (List ℕ))) (y : List (List ℕ)) → total (xs ++ y ∷ []) ≡ total xs + length y
 total_append [] y = omega arith
@@ -80,9 +77,6 @@ number-fits s next rows d p row c h k =
     let f = c.fits in
     omega (arith, b, l, f, k)
 
-pub place-within : (all : List (List ℕ)) (name : List ℕ) (p : ℕ) → place_in all name ≡ Some p → p < length all
-place-within all name p h = (position-Some (is_name name) all p [] h).0
-
 found : (first : ℕ) (table : List (List (List ℕ))) (d p : ℕ) (here : List (List ℕ)) (name : List ℕ) → slice_get table d ≡ Some here → place_in here name ≡ Some p
     → own_number first table name d ≡ slice_get (own_from first (map length table) d) p
 found first table d p here name h k = ap (λ (o : Option (List (List ℕ))). number_at (own_from first (map length table) d) (place_in (at_class o) name)) h ∙ ap (number_at (own_from first (map length table) d)) k
@@ -90,7 +84,7 @@ found first table d p here name h k = ap (λ (o : Option (List (List ℕ))). num
 -- what the class of a row declares by a name
 pub own-found : (s next : ℕ) (rows : List Row) (d p : ℕ) (row : Row) (name : List ℕ) → Counted s next rows → slice_get rows d ≡ Some row → place_in row.names name ≡ Some p
     → own_number s (names_of rows) name d ≡ Some (row.first + p)
-own-found s next rows d p row name c h k = found s (names_of rows) d p row.names name (row-names rows d row h) k ∙ own-get s rows d p row c.firsts h (place-within row.names name p k)
+own-found s next rows d p row name c h k = found s (names_of rows) d p row.names name (row-names rows d row h) k ∙ own-get s rows d p row c.firsts h (place_inside row.names name p k)
 
 pub replicate_more : (n : ℕ) → replicate {A = List (List ℕ)} n [] ++ [] ∷ [] ≡ replicate (n + 1) []
 replicate_more zero = refl
@@ -111,9 +105,3 @@ listed-cons f first all here c rest l = record {
 
 pub listed-more : (f : Class → List (List ℕ)) (first : ℕ) (all here new : List (List (List ℕ))) (c : Class) (left rest : List Class) → left ≡ c ∷ rest → new ≡ here ++ f c ∷ [] → Listed f first all here left → Listed f first all new rest
 listed-more f first all here new c left rest e n l = subst (λ (m : List (List (List ℕ))). Listed f first all m rest) (sym n) (listed-cons f first all here c rest (subst (Listed f first all here) e l))
-
-pub listed-differ : (f : Class → List (List ℕ)) (first : ℕ) (all here : List (List (List ℕ))) (c : Class) (left rest : List Class) → left ≡ c ∷ rest → Listed f first all here left → distinct (f c) ≡ true
-listed-differ f first all here c left rest e l = (and_parts (distinct (f c)) (list_all distinct (map f rest)) (subst (λ (cs : List Class). list_all distinct (map f cs) ≡ true) e l.differ)).0
-
-pub listed-fits : (f : Class → List (List ℕ)) (first : ℕ) (all here : List (List (List ℕ))) (c : Class) (left rest : List Class) → left ≡ c ∷ rest → Listed f first all here left → first + total here + length (f c) < 2 ^ 32
-listed-fits f first all here c left rest e l = let h = subst (λ (cs : List Class). first + (total here + total (map f cs)) < 2 ^ 32) e l.fits in omega (arith, h)

@@ -1,6 +1,6 @@
 -- Names that are added keep the number that they have.
-use Rattle.std.proofs.Common.{◌≡◌, ℕ, zero, suc, Bool, true, false, if◌then◌else◌, List, [], ◌∷◌, ◌++◌, refl, sym, ap, ◌∙◌, subst, Option, Some, None, option_map, length, slice_get, get_or, arith, cond, take, ◌<◌, ◌+◌}
-use Rattle.std.proofs.lemmas.List.{length_push}
+use Rattle.std.proofs.Common.{◌≡◌, ℕ, zero, suc, Bool, true, false, if◌then◌else◌, List, [], ◌∷◌, ◌++◌, refl, sym, ap, ◌∙◌, subst, Option, Some, None, option_map, is_some, length, slice_get, get_or, arith, cond, take, ◌<◌, ◌+◌}
+use Rattle.std.proofs.lemmas.List.{length_push, length-take-le, take_more}
 use Rattle.std.proofs.lemmas.List.Quantifiers.{position-Some}
 use Rattle.hhbc_repo.specs.LinkFaults.{Name, is_name, names, place_in}
 use Rattle.hhbc_repo.specs.LookUps.{number_at, or_else}
@@ -14,14 +14,15 @@ same_name [] (n ∷ ns) e = absurd (cc)
 same_name (q ∷ qs) [] e = absurd (cc)
 same_name (q ∷ qs) (n ∷ ns) e = grind (arith, same_name qs ns)
 
+pub found_names : (all : List Name) (name : Name) → is_some (place_in all name) ≡ names all name
+found_names [] name = refl
+found_names (n ∷ ns) name = grind (arith, found_names ns name)
+
 pub absent_names : (all : List Name) (name : Name) → place_in all name ≡ None → names all name ≡ false
-absent_names [] name e = refl
-absent_names (n ∷ ns) name e = grind (arith, absent_names ns name)
+absent_names all name e = sym (found_names all name) ∙ ap is_some e
 
 pub there_names : (all : List Name) (name : Name) (i : ℕ) → place_in all name ≡ Some i → names all name ≡ true
-there_names [] name i e = absurd (cc)
-there_names (n ∷ ns) name zero e = grind (arith)
-there_names (n ∷ ns) name (suc i) e = grind (arith, there_names ns name i)
+there_names all name i e = sym (found_names all name) ∙ ap is_some e
 
 put_when : (b : Bool) (t : Numbers) (name : Name) (n : ℕ) → names t.known name ≡ b
     → put t name n ≡ (if b then t else record { known = t.known ++ name ∷ []; firsts = t.firsts ++ n ∷ [] })
@@ -63,7 +64,7 @@ slice_append [] n i h = absurd (omega arith)
 slice_append (x ∷ xs) n zero h = refl
 slice_append (x ∷ xs) n (suc i) h = slice_append xs n i (omega arith)
 
-place_inside : (all : List Name) (q : Name) (i : ℕ) → place_in all q ≡ Some i → i < length all
+pub place_inside : (all : List Name) (q : Name) (i : ℕ) → place_in all q ≡ Some i → i < length all
 place_inside all q i e = (position-Some (is_name q) all i [] e).0
 
 number_append : (known : List Name) (firsts : List ℕ) (name q : Name) (n : ℕ) → length known ≡ length firsts
@@ -105,31 +106,11 @@ put_finds t all name f = go (place_in t.known name) refl
           λ q. f.1 q ∙ kept all (is_name q name) (place_in all q) (λ b. found all name q b v.0 there) ∙ sym (place_append all name q),
         )
 
-some_same : {A : Type 0} (a b : A) → Some a ≡ Some b → a ≡ b
-some_same a b e = cc e
-
-take_next : (xs : List Name) (i : ℕ) (x : Name) → slice_get xs i ≡ Some x → take (suc i) xs ≡ take i xs ++ x ∷ []
-take_next [] i x e = absurd (cc)
-take_next (y ∷ ys) zero x e = ap (λ z. z ∷ []) (some_same y x e)
-take_next (y ∷ ys) (suc i) x e = ap (λ l. y ∷ l) (take_next ys i x e)
-
-take_length : (xs : List Name) (i : ℕ) (x : Name) → slice_get xs i ≡ Some x → length (take i xs) ≡ i
-take_length [] i x e = absurd (cc)
-take_length (y ∷ ys) zero x e = refl
-take_length (y ∷ ys) (suc i) x e = ap (λ k. suc k) (take_length ys i x e)
-
-got : (all : List Name) (i : ℕ) (other name : Name) → i < length all → get_or all i other ≡ name → slice_get all i ≡ Some name
-got [] i other name h e = absurd (omega arith)
-got (n ∷ ns) zero other name h e = ap Some e
-got (n ∷ ns) (suc i) other name h e = got ns i other name (omega arith) e
-
 -- the next name is put with its place
 pub next_finds : (t new : Numbers) (all : List Name) (n i : ℕ) (other name : Name) → n ≡ i → i < length all → get_or all i other ≡ name → Finds t (take i all) → new ≡ put t name n → Finds new (take (i + 1) all)
 next_finds t new all n i other name e inside at f is =
-    let there = got all i other name inside at in
-    let up : suc i ≡ i + 1 = omega arith in
-    let longer : take i all ++ name ∷ [] ≡ take (i + 1) all = sym (take_next all i name there) ∙ ap (λ k. take k all) up in
-    let number : length (take i all) ≡ n = take_length all i name there ∙ sym e in
+    let longer : take i all ++ name ∷ [] ≡ take (i + 1) all = ap (λ (q : Name). take i all ++ q ∷ []) (sym at) ∙ sym (take_more all i other inside) in
+    let number : length (take i all) ≡ n = length-take-le i all (omega arith) ∙ sym e in
     subst (λ l. Finds new l) longer (subst (λ p. Finds p (take i all ++ name ∷ [])) (ap (λ k. put t name k) number ∙ sym is) (put_finds t (take i all) name f))
 
 -- ---- a name that is put

@@ -33,6 +33,7 @@ use Rattle.hhbc_repo.specs.LinkFaults.{Name, Whole, Place, names, label_of, chec
 use Rattle.hhbc_repo.proofs.Relabelled.{relabelled_arm, relabelled_operand, relabelled_code, relabelled_position}
 use Rattle.hhbc_repo.specs.Resolved.{label_from, label_number, local_number, resolved_assert, resolved_arm, resolved_operand, resolved_code, resolved_position}
 use Rattle.hhbc_repo.proofs.AlikeWholes.{Alike, place, class_same, number_same, type_same, class_faults_same, type_faults_same, constant_faults_same, method_faults_same, function_faults_same}
+use Rattle.hhbc_repo.proofs.Checking.{both_pass}
 use Rattle.hhbc_repo.proofs.NoFaults.{empty_left, empty_right}
 use Rattle.hhbc_repo.proofs.SpelledTypes.{all_front, all_back}
 
@@ -45,9 +46,6 @@ pub record Renamed (b : BodyParts) (is : List ItemParts) (old new : Name) : Type
   pub fits : is_label new ≡ true
   pub listed : names (flat_map label_of is) new ≡ true
   pub number : label_from 0 is new ≡ label_number b old
-
-pub none_both : {A : Type 0} (xs ys : List A) → xs ≡ [] → ys ≡ [] → xs ++ ys ≡ []
-none_both xs ys p q = ap₂ (λ (x y : List _). x ++ y) p q
 
 module _ (w v : Whole) (alike : Alike w v) (b : BodyParts) (is : List ItemParts) (owner : Name) (new : Name → Name) (is_target : ℕ → Bool)
     (renamed : (name : Name) → is_target (label_number b name) ≡ true → Renamed b is name (new name)) where
@@ -101,7 +99,7 @@ module _ (w v : Whole) (alike : Alike w v) (b : BodyParts) (is : List ItemParts)
   arms_faultless [] t = refl
   arms_faultless (a ∷ xs) t =
       let s = and_parts (is_target (label_number b a.target)) (list_all is_target (arm_targets xs)) t in
-      none_both (label_faults there (new a.target)) (flat_map (λ (a : ArmParts). label_faults there a.target) (map (relabelled_arm new) xs)) (label_faultless a.target s.0) (arms_faultless xs s.1)
+      both_pass (label_faults there (new a.target)) (flat_map (λ (a : ArmParts). label_faults there a.target) (map (relabelled_arm new) xs)) (label_faultless a.target s.0) (arms_faultless xs s.1)
 
   arms_resolve : (xs : List ArmParts) → Meant (arm_targets xs) → map (resolved_arm made) (map (relabelled_arm new) xs) ≡ map (resolved_arm b) xs
   arms_resolve [] t = refl
@@ -142,7 +140,7 @@ module _ (w v : Whole) (alike : Alike w v) (b : BodyParts) (is : List ItemParts)
   operands_faultless (m ∷ ms) t h =
       let now = labels_in (resolved_operand w b m) in
       let later = flat_map labels_in (map (resolved_operand w b) ms) in
-      none_both (operand_faults there (relabelled_operand new m)) (flat_map (operand_faults there) (map (relabelled_operand new) ms))
+      both_pass (operand_faults there (relabelled_operand new m)) (flat_map (operand_faults there) (map (relabelled_operand new) ms))
       (operand_faultless m (all_front is_target now later t) (empty_left (operand_faults here m) (flat_map (operand_faults here) ms) h))
       (operands_faultless ms (all_back is_target now later t) (empty_right (operand_faults here m) (flat_map (operand_faults here) ms) h))
 
@@ -201,7 +199,7 @@ module _ (w v : Whole) (alike : Alike w v) (b : BodyParts) (is : List ItemParts)
   position_faultless q t h =
       let first = flat_map (assert_faults here) q.asserts in
       let same : flat_map (assert_faults there) q.asserts ≡ first = λ i. flat_map (λ a. assert_faults_same a i) q.asserts in
-      none_both (flat_map (assert_faults there) q.asserts) (code_faults there (relabelled_code new q.code))
+      both_pass (flat_map (assert_faults there) q.asserts) (code_faults there (relabelled_code new q.code))
       (same ∙ empty_left first (code_faults here q.code) h) (code_faultless q.code t (empty_right first (code_faults here q.code) h))
 
   position_resolves : (q : PositionParts) → Meant (position_targets (resolved_position w b q)) → resolved_position v made (relabelled_position new q) ≡ resolved_position w b q
@@ -225,7 +223,7 @@ module _ (w v : Whole) (alike : Alike w v) (b : BodyParts) (is : List ItemParts)
   positions_faultless (q ∷ qs) t h =
       let now = position_targets (resolved_position w b q) in
       let later = flat_map (position_faults here) qs in
-      none_both (position_faults there (relabelled_position new q)) (flat_map (position_faults there) (map (relabelled_position new) qs))
+      both_pass (position_faults there (relabelled_position new q)) (flat_map (position_faults there) (map (relabelled_position new) qs))
       (position_faultless q (all_front is_target now (all_targets qs) t) (empty_left (position_faults here q) later h))
       (positions_faultless qs (all_back is_target now (all_targets qs) t) (empty_right (position_faults here q) later h))
 

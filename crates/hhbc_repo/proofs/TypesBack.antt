@@ -23,8 +23,7 @@ use Rattle.hhbc_repo.specs.WrittenTypes.{obj_placed, leaf_placed, entry_placed, 
 use Rattle.hhbc_repo.specs.WrittenTypes as written
 use Rattle.hhbc_repo.proofs.Elements.{slice_seam}
 use Rattle.hhbc_repo.proofs.NoFaults.{empty_left, empty_right, passes}
-use Rattle.hhbc_repo.proofs.NamesMet.{found_names}
-use Rattle.hhbc_repo.proofs.NumbersPut.{same_name, absent_names}
+use Rattle.hhbc_repo.proofs.NumbersPut.{same_name, found_names, absent_names}
 use Rattle.hhbc_repo.proofs.PartsOfTypes.{key_kept, keyset_kept}
 
 -- ---- names that are there

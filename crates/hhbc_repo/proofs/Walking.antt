@@ -78,14 +78,6 @@ edges_are count b p (Some d) c g e h =
     subst (λ (c : Code). edges_of (Some d) b p ≡ next_edges (goes_on c) p) (sym k)
     (rw (no_labels count d (subst (λ (c : Code). FitsCode count c) k h), no_handler (throws d) b p g) (append-nil (next_edges (goes_on d) p ++ []) ∙ append-nil (next_edges (goes_on d) p)))
 
--- the positions of the first form
-pub fits_at : (count : ℕ) (ps : List Position) (p : ℕ) (q : Position) → FitPositions count ps → slice_get ps p ≡ Some q → FitsPosition count q
-fits_at count [] p q w e = absurd w
-fits_at count (x ∷ []) zero q w e = let k : x ≡ q = cc in subst (λ (y : Position). FitsPosition count y) k w.0
-fits_at count (x ∷ []) (suc p) q w e = absurd (cc)
-fits_at count (x ∷ y ∷ ps) zero q w e = let k : x ≡ q = cc in subst (λ (y : Position). FitsPosition count y) k w.0
-fits_at count (x ∷ y ∷ ps) (suc p) q w e = fits_at count (y ∷ ps) p q w.2 e
-
 -- the positions of the second form
 pub claimed_at : (count : ℕ) (ps : List Position) (p : ℕ) (q : Position) → FitClaimed count ps → slice_get ps p ≡ Some q → FitsClaimed count q
 claimed_at count [] p q w e = absurd w

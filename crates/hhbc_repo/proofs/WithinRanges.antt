@@ -49,8 +49,7 @@ use Rattle.hhbc_repo.specs.Within.{Bounds, bounds_of, type_within, constraint_wi
 use Rattle.hhbc_repo.proofs.NoFaults.{empty_left, empty_right, passes, differ, constant_class, method_class, faultless, passed}
 use Rattle.hhbc_repo.proofs.CanonicalItems.{label_among, linked_positions}
 use Rattle.hhbc_repo.proofs.Elements.{slice_seam}
-use Rattle.hhbc_repo.proofs.Numbered.{place-within}
-use Rattle.hhbc_repo.proofs.NumbersPut.{absent_names}
+use Rattle.hhbc_repo.proofs.NumbersPut.{absent_names, place_inside}
 use Rattle.hhbc_repo.proofs.PartsOfTypes.{there_same}
 use Rattle.hhbc_repo.proofs.PartsThatFit.{body_facts, class_facts}
 use Rattle.hhbc_repo.proofs.SpelledTypes.{all_both}
@@ -64,14 +63,14 @@ named_within all name h = go (place_in all name) refl
   where
     go : (o : Option ℕ) → place_in all name ≡ o → nat_lt (or_zero o) (length all) ≡ true
     go None e = absurd (let f = absent_names all name e in (cc))
-    go (Some n) e = le-leb (suc n) (length all) (place-within all name n e)
+    go (Some n) e = le-leb (suc n) (length all) (place_inside all name n e)
 
 class_there : (w : Whole) (owner name : Name) → class_faults w owner name ≡ [] → nat_lt (class_number w name) (length (class_names w)) ≡ true
 class_there w owner name h = go (class_of w name) refl (passes (is_some (class_of w name)) reasons.UnknownName owner name 0 h)
   where
     go : (o : Option ℕ) → class_of w name ≡ o → is_some o ≡ true → nat_lt (or_zero o) (length (class_names w)) ≡ true
     go None e t = absurd (cc)
-    go (Some n) e t = le-leb (suc n) (length (class_names w)) (place-within (class_names w) name n e)
+    go (Some n) e t = le-leb (suc n) (length (class_names w)) (place_inside (class_names w) name n e)
 
 -- ---- positions that are linked
 

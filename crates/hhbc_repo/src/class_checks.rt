@@ -79,12 +79,16 @@ fn check_class(
 }
 
 /// All classes: the names, the parents, and how they descend from one another.
-pub(crate) fn check_classes(alloc: Global, known: &Known<'_>) -> Result<(), LinkError>
-    requires { 6 + length known.now.classes < 2 ^ 32 }
-    ensures { Checks (each_class (class_checks known.now) first_class known.now.classes) tt result }
+pub(crate) fn check_classes(
+    alloc: Global,
+    known: &Known<'_>,
+    classes: &[ClassParts],
+) -> Result<(), LinkError>
+    requires { 6 + length classes.now < 2 ^ 32 }
+    ensures { Checks (each_class (class_checks known.now) first_class classes.now) tt result }
 {
     let mut number = 6;
-    for class in known.listed().classes() {
+    for class in classes {
         match check_class(alloc, known, number, class) {
             Ok(()) => number += 1,
             Err(error) => return Err(error),

@@ -31,6 +31,7 @@ mod member_checks;
 mod members;
 mod name_table;
 mod nesting;
+mod outlines;
 mod parts;
 mod regions;
 mod repo;

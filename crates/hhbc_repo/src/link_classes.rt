@@ -11,21 +11,21 @@ use crate::known::Known;
 use crate::link_bodies::linked_body;
 use crate::link_fault::LinkError;
 use crate::parts::{BodyParts, ClassParts, PropertyParts};
-use crate::repo::{Class, Const, Property};
+use crate::repo::{Class, Property};
 use hack_values::{NoMemory, Seq, Text};
 use std::alloc::Global;
 
-/// The functions.
+/// The functions. The parts of each are gone once it is linked.
 pub(crate) fn linked_functions(
     alloc: Global,
     known: &Known,
-    functions: &[BodyParts],
+    functions: Seq<BodyParts>,
 ) -> Result<Seq<Body>, LinkError>
-    ensures { Checks (flat_map body_faults (map (λ b. record { whole = known.now; body = b; owner = b.name }) functions.now)) (map (resolved_body known.now) functions.now) result }
+    ensures { Checks (flat_map body_faults (map (λ b. record { whole = known.now; body = b; owner = b.name }) functions)) (map (resolved_body known.now) functions) result }
 {
     let mut all = Seq::new(alloc);
-    for function in functions {
-        match linked_body(alloc, known, function, function.name.bytes()) {
+    for function in functions.into_vec() {
+        match linked_body(alloc, known, &function, function.name.bytes()) {
             Ok(linked) => all.push(linked)?,
             Err(error) => return Err(error),
         }
@@ -61,13 +61,13 @@ fn linked_methods(
     alloc: Global,
     known: &Known,
     class: &[u8],
-    methods: &[BodyParts],
+    methods: Seq<BodyParts>,
 ) -> Result<Seq<Body>, LinkError>
-    ensures { Checks (flat_map body_faults (map (λ b. record { whole = known.now; body = b; owner = class.now ++ (codes "::" ++ b.name) }) methods.now)) (map (resolved_body known.now) methods.now) result }
+    ensures { Checks (flat_map body_faults (map (λ b. record { whole = known.now; body = b; owner = class.now ++ (codes "::" ++ b.name) }) methods)) (map (resolved_body known.now) methods) result }
 {
     let mut all = Seq::new(alloc);
-    for method in methods {
-        match linked_method(alloc, known, class, method) {
+    for method in methods.into_vec() {
+        match linked_method(alloc, known, class, &method) {
             Ok(linked) => all.push(linked)?,
             Err(error) => return Err(error),
         }
@@ -75,90 +75,56 @@ fn linked_methods(
     Ok(all)
 }
 
-fn property(alloc: Global, known: &Known, parts: &PropertyParts) -> Result<Property, NoMemory>
-    ensures { IfOk result (λ p. p ≡ resolved_property known.now parts.now) }
+fn property(known: &Known, parts: PropertyParts) -> Property
+    ensures { result ≡ resolved_property known.now parts }
 {
-    Ok(Property {
-        name: parts.name.copy(alloc)?,
-        initial: parts.initial.copy(alloc)?,
+    Property {
         stated: known.listed().numbered_stated(&parts.stated),
-    })
+        name: parts.name,
+        initial: parts.initial,
+    }
 }
 
 fn properties(
     alloc: Global,
     known: &Known,
-    parts: &[PropertyParts],
+    parts: Seq<PropertyParts>,
 ) -> Result<Seq<Property>, NoMemory>
-    ensures { IfOk result (λ all. all ≡ map (resolved_property known.now) parts.now) }
+    ensures { IfOk result (λ all. all ≡ map (resolved_property known.now) parts) }
 {
     let mut all = Seq::new(alloc);
-    for part in parts {
-        all.push(property(alloc, known, part)?)?;
+    for part in parts.into_vec() {
+        all.push(property(known, part))?;
     }
     Ok(all)
 }
 
-fn copied_constant(alloc: Global, constant: &Const) -> Result<Const, NoMemory>
-    ensures { IfOk result (λ c. c ≡ constant.now) }
+fn linked_class(alloc: Global, known: &Known, parts: ClassParts) -> Result<Class, LinkError>
+    ensures { Checks (flat_map body_faults (method_places known.now parts)) (resolved_class known.now parts) result }
 {
-    Ok(Const {
-        name: constant.name.copy(alloc)?,
-        value: constant.value.copy(alloc)?,
-    })
-}
-
-fn copied_constants(alloc: Global, constants: &[Const]) -> Result<Seq<Const>, NoMemory>
-    ensures { IfOk result (λ all. all ≡ constants.now) }
-{
-    let mut all = Seq::new(alloc);
-    for constant in constants {
-        all.push(copied_constant(alloc, constant)?)?;
-    }
-    Ok(all)
-}
-
-/// The class with these methods.
-fn class_with(
-    alloc: Global,
-    known: &Known,
-    parts: &ClassParts,
-    methods: Seq<Body>,
-) -> Result<Class, NoMemory>
-    requires { methods ≡ map (resolved_body known.now) parts.now.methods }
-    ensures { IfOk result (λ c. c ≡ resolved_class known.now parts.now) }
-{
-    Ok(Class {
-        name: parts.name.copy(alloc)?,
-        parent: known.listed().parent_of(&parts.parent),
-        consts: copied_constants(alloc, parts.consts.as_slice())?,
-        props: properties(alloc, known, parts.props.as_slice())?,
-        methods,
-    })
-}
-
-fn linked_class(alloc: Global, known: &Known, parts: &ClassParts) -> Result<Class, LinkError>
-    ensures { Checks (flat_map body_faults (method_places known.now parts.now)) (resolved_class known.now parts.now) result }
-{
-    match linked_methods(alloc, known, parts.name.bytes(), parts.methods.as_slice()) {
-        Ok(methods) => match class_with(alloc, known, parts, methods) {
-            Ok(class) => Ok(class),
-            Err(_want) => Err(LinkError::NoMemory),
-        },
+    let methods = parts.methods;
+    match linked_methods(alloc, known, parts.name.bytes(), methods) {
+        Ok(methods) => Ok(Class {
+            parent: known.listed().parent_of(&parts.parent),
+            name: parts.name,
+            consts: parts.consts,
+            props: properties(alloc, known, parts.props)?,
+            methods,
+        }),
         Err(error) => Err(error),
     }
 }
 
-/// The classes.
+/// The classes. The parts of each method are gone once it is linked.
 pub(crate) fn linked_classes(
     alloc: Global,
     known: &Known,
-    classes: &[ClassParts],
+    classes: Seq<ClassParts>,
 ) -> Result<Seq<Class>, LinkError>
-    ensures { Checks (flat_map body_faults (flat_map (method_places known.now) classes.now)) (map (resolved_class known.now) classes.now) result }
+    ensures { Checks (flat_map body_faults (flat_map (method_places known.now) classes)) (map (resolved_class known.now) classes) result }
 {
     let mut all = Seq::new(alloc);
-    for class in classes {
+    for class in classes.into_vec() {
         match linked_class(alloc, known, class) {
             Ok(linked) => all.push(linked)?,
             Err(error) => return Err(error),

@@ -14,7 +14,7 @@ use crate::scope::Scope;
 use hack_values::{NoMemory, Seq, Text};
 use std::alloc::Global;
 
-fn perhaps_copied(alloc: Global, text: &Option<Text>) -> Result<Option<Text>, NoMemory>
+pub(crate) fn perhaps_copied(alloc: Global, text: &Option<Text>) -> Result<Option<Text>, NoMemory>
     ensures { IfOk result (λ copy. copy ≡ text.now) }
 {
     match text {

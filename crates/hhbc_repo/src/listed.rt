@@ -78,20 +78,6 @@ impl<'a> Listed<'a> {
         })
     }
 
-    /// The functions that are linked.
-    pub(crate) fn functions(&self) -> &[BodyParts]
-        ensures { result.now ≡ self.now.functions }
-    {
-        self.functions
-    }
-
-    /// The classes that are linked.
-    pub(crate) fn classes(&self) -> &[ClassParts]
-        ensures { result.now ≡ self.now.classes }
-    {
-        self.classes
-    }
-
     /// The number of the first class of a name.
     pub(crate) fn class_of(&self, name: &[u8]) -> Option<u32>
         ensures { result ≡ faults.class_of self.now name.now }

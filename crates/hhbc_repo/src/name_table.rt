@@ -48,7 +48,7 @@ impl NameTable {
     }
 
     /// Whether the name is in the table.
-    #[tactic(auto, using(crate::proofs::NamesMet::found_names))]
+    #[tactic(auto, using(crate::proofs::NumbersPut::found_names))]
     pub(crate) fn contains(&self, name: &[u8]) -> bool
         ensures { result ≡ names self.now name.now }
     {

@@ -5,4 +5,4 @@ use Rattle.hhbc_repo.proofs.class_checks.check_classes.Given as goal
 abbrev pub invariant-loop-class : goal.invariant-loop-class
 invariant-loop-class l =
     (l.number ≡ 6 + l.class-index)
-    × (each_class (class_checks l.known) l.number (drop l.class-index l.known.classes) ≡ each_class (class_checks l.known) first_class l.known.classes)
+    × (each_class (class_checks l.known) l.number (drop l.class-index l.classes) ≡ each_class (class_checks l.known) first_class l.classes)

@@ -1,11 +1,12 @@
-use Rattle.std.proofs.Common.{rules, ◌≡◌, List, [], map, refl}
+use Rattle.std.proofs.Common.{rules, ◌≡◌, List, [], ap, ◌∙◌, sym, subst, map, refl}
 use Rattle.std.specs.List.{flat_map}
+use Rattle.std.specs.Vec.Iter.{into_iter_items}
 use Rattle.hhbc_repo.specs.declared.parts.BodyParts.{BodyParts}
 use Rattle.hhbc_repo.specs.declared.link_fault.LinkFault.{LinkFault}
 use Rattle.hhbc_repo.specs.Checks.{TellsFirst}
 use Rattle.hhbc_repo.specs.LinkFaults.{Place, Whole, body_faults}
 use Rattle.hhbc_repo.specs.Resolved.{resolved_body}
-use Rattle.hhbc_repo.proofs.CheckLoops.{item_tells, item_passes, collected}
+use Rattle.hhbc_repo.proofs.GivenAway.{given_all, given_count, given_made, given_passes, given_tells, none_given}
 use Rattle.hhbc_repo.proofs.link_classes.linked_functions.Goals as goal
 
 abbrev place : Whole → BodyParts → Place
@@ -21,16 +22,27 @@ pub returns-in-Err : goal.returns-in-Err
 returns-in-Err c =
     let w = c.args.known.now in
     let l = c.loop-function in
-    let told : TellsFirst (one_faults w c.function-item.result) c.in-Err.error = search rules in
-    item_tells (all_faults w) (one_faults w) c.args.functions.now l.function-index c.function-item.result _ c.in-Err.error (λ y ys. refl) c.loop-function-test.true
-    c.function-item.is l.invariant.left told
+    let x = c.in-Some.function in
+    let told : TellsFirst (one_faults w x) c.in-Err.error = search rules in
+    let all = given_tells (all_faults w) (one_faults w) (into_iter_items c.into_iter-function-iterator.result) (into_iter_items l.function-iterator) (into_iter_items c.next.new.self) x (λ y ys. refl) c.in-Some.ensures.steps.0 l.invariant.left c.in-Err.error told in
+    subst (λ xs. TellsFirst (all_faults w xs) c.in-Err.error) (c.into_iter-function-iterator.ensures.into_iter_gives.0 ∙ c.into_vec-function-items.ensures) all
 
 pub loop-function-preserved : goal.loop-function-preserved
 loop-function-preserved c =
     let w = c.args.known.now in
     let l = c.loop-function in
-    let none : one_faults w c.function-item.result ≡ [] = search rules in
+    let x = c.in-Some.function in
+    let none : one_faults w x ≡ [] = search rules in
     record {
-      left = item_passes (all_faults w) (one_faults w) c.args.functions.now l.function-index c.function-item.result _ (λ y ys. refl) c.loop-function-test.true c.function-item.is l.invariant.left none;
-      all = collected (resolved_body w) c.args.functions.now l.function-index c.function-item.result _ l.all c.push.new.self c.in-Ok.linked c.loop-function-test.true c.function-item.is l.invariant.all c.in_ok-push-in-Ok.ensures.ok c.in-Ok.ensures.1;
+      left = given_passes (all_faults w) (one_faults w) (into_iter_items c.into_iter-function-iterator.result) (into_iter_items l.function-iterator) (into_iter_items c.next.new.self) x (λ y ys. refl) c.in-Some.ensures.steps.0 l.invariant.left none;
+      all = given_made (resolved_body w) (map (resolved_body w) (into_iter_items c.into_iter-function-iterator.result)) (into_iter_items l.function-iterator) (into_iter_items c.next.new.self) x _ _ c.in-Ok.linked c.in-Some.ensures.steps.0 l.invariant.all c.in_ok-push-in-Ok.ensures.ok c.in-Ok.ensures.1;
+      len = given_count (into_iter_items l.function-iterator) (into_iter_items c.next.new.self) x _ _ c.in-Some.ensures.steps.0 c.in-Some.ensures.steps.1 l.invariant.len;
     }
+
+pub returns : goal.returns
+returns c =
+    let w = c.args.known.now in
+    let l = c.loop-function in
+    let none = none_given (into_iter_items l.function-iterator) _ c.in-None.ensures.steps.0 l.invariant.len in
+    let is = c.into_iter-function-iterator.ensures.into_iter_gives.0 ∙ c.into_vec-function-items.ensures in
+    (ap (all_faults w) (sym is) ∙ l.invariant.left ∙ ap (all_faults w) none, given_all (resolved_body w) (map (resolved_body w) (into_iter_items c.into_iter-function-iterator.result)) (into_iter_items l.function-iterator) l.all none l.invariant.all ∙ ap (map (resolved_body w)) is)

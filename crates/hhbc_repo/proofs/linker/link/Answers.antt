@@ -1,4 +1,4 @@
-use Rattle.std.proofs.Common.{List, Result, map, ap, ap₂, sym, subst, ◌∙◌}
+use Rattle.std.proofs.Common.{List, Result, map, refl, ap, sym, subst, ◌∙◌}
 use Rattle.hhbc_repo.specs.declared.body.Body.{Body}
 use Rattle.hhbc_repo.specs.declared.repo.Class.{Class}
 use Rattle.hhbc_repo.specs.declared.link_fault.LinkError.{LinkError}
@@ -26,14 +26,14 @@ linked w = (map (resolved_body w) w.functions, map (resolved_class w) w.classes)
 pub new-requires-clause-sound : goal.new-requires-clause-sound
 new-requires-clause-sound c =
     let w = whole c.args.parts.functions c.args.parts.classes in
-    let checked : Checks (faults w) (linked w) c.linked_parts.result = c.linked_parts.ensures w (ap₂ whole (sym c.as_slice.ensures) (sym c.as_slice-2.ensures)) in
+    let checked : Checks (faults w) (linked w) c.linked_parts.result = c.linked_parts.ensures w refl in
     let passes = subst (λ (q : Result (List Body × List Class) LinkError). Checks (faults w) (linked w) q) c.in-Ok.is checked in
     subst Sound (sym (ap both passes.1)) (sound_links w c.requires.properties passes.0)
 
 pub new-requires-clause-spelled : goal.new-requires-clause-spelled
 new-requires-clause-spelled c =
     let w = whole c.args.parts.functions c.args.parts.classes in
-    let checked : Checks (faults w) (linked w) c.linked_parts.result = c.linked_parts.ensures w (ap₂ whole (sym c.as_slice.ensures) (sym c.as_slice-2.ensures)) in
+    let checked : Checks (faults w) (linked w) c.linked_parts.result = c.linked_parts.ensures w refl in
     let passes = subst (λ (q : Result (List Body × List Class) LinkError). Checks (faults w) (linked w) q) c.in-Ok.is checked in
     let back = linked_back w c.args.parts.spelled passes.0 in
     subst HasSpelling (sym (ap both passes.1)) (record { fits = back.0; links = back.1 })
@@ -41,6 +41,6 @@ new-requires-clause-spelled c =
 pub returns-in-Ok-new : goal.returns-in-Ok-new
 returns-in-Ok-new c =
     let w = whole c.args.parts.functions c.args.parts.classes in
-    let checked : Checks (faults w) (linked w) c.linked_parts.result = c.linked_parts.ensures w (ap₂ whole (sym c.as_slice.ensures) (sym c.as_slice-2.ensures)) in
+    let checked : Checks (faults w) (linked w) c.linked_parts.result = c.linked_parts.ensures w refl in
     let passes = subst (λ (q : Result (List Body × List Class) LinkError). Checks (faults w) (linked w) q) c.in-Ok.is checked in
     record { sound = passes.0; is = c.in-Ok-new.ensures ∙ ap both passes.1 }
