@@ -4,7 +4,7 @@ use Rattle.hhas_lex.specs.Tokens.{Token, front}
 use Rattle.hhbc_repo.specs.Languages.{Lang, Either}
 use Rattle.hhas_read.specs.declared.reader.Stop.{Stop}
 use Rattle.hhas_read.specs.declared.reader.Stop.TheVariants.{Syntax, NoMemory}
-use Rattle.hhas_read.specs.Reading.{Placed, Follow, Taken, Reads, next}
+use Rattle.hhas_read.specs.Reading.{Placed, Follow, Reads, next}
 use Rattle.hhas_read.proofs.Joining.{NeverBegins}
 
 pub first_is : (l read m : List Token) → l ≡ read ++ m → (y : List Token) → (z : List Token) × ((read ++ front m ∷ []) ++ y ≡ front l ∷ z)
@@ -24,6 +24,3 @@ reads_right F A B old new (Err Syntax) never s = record {
   ];
 }
 reads_right F A B old new (Err NoMemory) never t = tt
-
-pub taken_left : {V : Type 0} (F : Follow) (A B : Lang V) (old new : Placed) (v : V) → Taken F A old new v → Taken F (Either A B) old new v
-taken_left F A B old new v t = record { used = t.used; past = t.past; word = inl t.word; follows = t.follows }

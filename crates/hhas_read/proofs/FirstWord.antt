@@ -6,12 +6,12 @@ use Rattle.hhas_lex.specs.Tokens.{Token, Word, front}
 use Rattle.hhbc_repo.specs.Languages.{Lang, Behind, Means}
 use Rattle.hhas_read.specs.declared.reader.Stop.{Stop}
 use Rattle.hhas_read.specs.declared.reader.Stop.TheVariants.{Syntax, NoMemory}
-use Rattle.hhas_read.specs.Reading.{Placed, Past, Follow, Taken, Reads, next}
+use Rattle.hhas_read.specs.Reading.{Placed, Past, Follow, Reads, next}
 use Rattle.hhas_read.proofs.Reserved.{never_both}
 use Rattle.hhas_read.proofs.Said.{same_word}
 use Rattle.hhas_read.proofs.Choice.{first_is}
 use Rattle.hhas_read.proofs.Joining.{behind_resumes}
-use Rattle.hhas_read.proofs.Resuming.{Resumes, past_none, reads_on, resumes_then, stop_lifts, taken_lifts}
+use Rattle.hhas_read.proofs.Resuming.{Resumes, past_none, reads_on, resumes_then, stop_lifts}
 
 module _ {V : Type 0} (word : V → List ℕ) where
   -- the words of a language begin with the word of their value
@@ -33,9 +33,6 @@ module _ {V W : Type 0} (N : Lang V) (word : V → List ℕ) (M : Lang W) (f : W
       back w v x y n h e (inl m) = (w, m.0, off w m.0 (subst (N w) m.1 n), refl, m.1)
       back w v x y n h e (inr d) =
           absurd (never_both (sym ((bytes_eq-Decides (word v) name).1 (same_word (word v) name (sym (begins w v x n) ∙ ap front e ∙ h ∙ is))) ∙ d))
-
-  pub form_taken : (F : Follow) (old new : Placed) (u : W) → next old ≡ Word name → Taken F M old new u → Taken F N old new (f u)
-  form_taken F old new u is t = taken_lifts F N M old old new [] f u (form_resumes F old.tokens is) (past_none old) t
 
   pub form_stop : (F : Follow) (old new : Placed) (e : Stop) (r : Result V Stop) → next old ≡ Word name → r ≡ Err e → Reads F M old (Err e) new → Reads F N old r new
   form_stop F old new e r is stops s = subst (λ r. Reads F N old r new) (sym stops) (stop_lifts F N M old old new [] f e (form_resumes F old.tokens is) (past_none old) s)

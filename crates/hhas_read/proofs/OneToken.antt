@@ -19,9 +19,6 @@ module _ {V : Type 0} (k : V → Token) where
     dead = λ w u x y n o d. other u (sym (cc (d, ap (λ l. l ++ x) n)));
   }
 
-  pub single_taken : (F : Follow) (p q : Placed) (v : V) → next p ≡ k v → Past (next p ∷ []) p q → F (next q) ≡ true → Taken F Single p q v
-  single_taken F p q v e past follows = record { used = next p ∷ []; past = past; word = ap (λ t. t ∷ []) e; follows = follows }
-
   pub single_lawful : (F : Follow) (v : V) → is_proper (k v) ≡ true → ((v w : V) → k v ≡ k w → v ≡ w) → Lawful F Single
   single_lawful F v e one = record {
     same = λ a b x y u w n m o p d. let s = one u w (cc (d, ap (λ l. l ++ x) n, ap (λ l. l ++ y) m)) in (n ∙ ap (λ z. k z ∷ []) s ∙ sym m, s);
@@ -39,9 +36,6 @@ module _ {V : Type 0} (k : V → Token) (P : V → Type 0) where
     viable = record { more = k v ∷ []; value = v; word = (refl, fits); proper = ap (λ c. c && true) e };
     dead = λ w u x y n o d. other u (sym (cc (d, ap (λ l. l ++ x) n.0))) n.1;
   }
-
-  pub guarded_taken : (F : Follow) (p q : Placed) (v : V) → next p ≡ k v → P v → Past (next p ∷ []) p q → F (next q) ≡ true → Taken F Guarded p q v
-  guarded_taken F p q v e fits past follows = record { used = next p ∷ []; past = past; word = (ap (λ t. t ∷ []) e, fits); follows = follows }
 
 -- ---- a token without a value
 

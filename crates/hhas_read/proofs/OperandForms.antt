@@ -17,8 +17,8 @@ use Rattle.hhas_read.specs.Arms.{ArmsToEnd, StringArmsToEnd}
 use Rattle.hhas_read.specs.OneWord.{AnIsType}
 use Rattle.hhas_read.specs.declared.reader.Stop.{Stop}
 use Rattle.hhas_read.specs.Kinds.{after}
-use Rattle.hhas_read.specs.Reading.{Follow, Placed, Reads, Taken}
-use Rattle.hhas_read.proofs.Resuming.{Resumes, past_none, stop_lifts, taken_lifts}
+use Rattle.hhas_read.specs.Reading.{Follow, Placed, Reads}
+use Rattle.hhas_read.proofs.Resuming.{Resumes, past_none, stop_lifts}
 use Rattle.hhas_read.proofs.Joining.{Lawful}
 use Rattle.hhas_read.proofs.Making.{made_lawful}
 
@@ -35,12 +35,6 @@ pub kind_stops : {V : Type 0} (kind one : ImmKind) → kind ≡ one → (A : Lan
 kind_stops kind one is A f s old new e r =
     subst (λ k. Reads (after k) (Operand k) old (Err e) new) (sym is)
     (stop_lifts (after one) (Operand one) A old old new [] f e (spelled_resumes (after one) one A f s old.tokens) (past_none old) r)
-
-pub kind_taken : {V : Type 0} (kind one : ImmKind) → kind ≡ one → (A : Lang V) (f : V → ImmParts) → Spelled one A f → (old new : Placed) (v : V)
-    → Taken (after one) A old new v → Taken (after kind) (Operand kind) old new (f v)
-kind_taken kind one is A f s old new v t =
-    subst (λ k. Taken (after k) (Operand k) old new (f v)) (sym is)
-    (taken_lifts (after one) (Operand one) A old old new [] f v (spelled_resumes (after one) one A f s old.tokens) (past_none old) t)
 
 pub spelled_lawful : {V : Type 0} (F : Follow) (kind : ImmKind) (A : Lang V) (f : V → ImmParts) → Spelled kind A f → Lawful F A → Lawful F (Operand kind)
 spelled_lawful F kind A f s law =

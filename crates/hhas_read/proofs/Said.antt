@@ -39,17 +39,6 @@ not_integer pieces.LessEqual t s n w e = absurd (cc (s, e))
 not_integer pieces.End t s n w e = absurd (cc (s, e))
 not_integer pieces.Bad t s n w e = absurd (cc (s, e))
 
-pub not_string : (p : Piece) (t : Token) → Says p t → (p ≡ pieces.Str → ⊥) → (w : List ℕ) → t ≡ tokens.Str w → ⊥
-not_string (pieces.Directive b) t s n w e = absurd (cc (s, e))
-not_string (pieces.Word b) t s n w e = absurd (cc (s, e))
-not_string (pieces.Local b) t s n w e = absurd (cc (s, e))
-not_string (pieces.Integer b) t s n w e = absurd (cc (s, e))
-not_string pieces.Str t s n w e = n refl
-not_string (pieces.Mark b) t s n w e = absurd (cc (s, e))
-not_string pieces.LessEqual t s n w e = absurd (cc (s, e))
-not_string pieces.End t s n w e = absurd (cc (s, e))
-not_string pieces.Bad t s n w e = absurd (cc (s, e))
-
 pub not_mark : (p : Piece) (t : Token) → Says p t → ((b : ℕ) → p ≡ pieces.Mark b → ⊥) → (w : ℕ) → t ≡ tokens.Mark w → ⊥
 not_mark (pieces.Directive b) t s n w e = absurd (cc (s, e))
 not_mark (pieces.Word b) t s n w e = absurd (cc (s, e))
