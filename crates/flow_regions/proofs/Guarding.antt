@@ -71,15 +71,6 @@ outside first q = is_false _ (λ h.
 pub none_lowered : (first m : ℕ) (f : ℕ → Option ℕ) (n : ℕ) → handled f n ≡ handled (lowered_from first first m f) n
 none_lowered first m f n = alike f (lowered_from first first m f) n (λ q l. rw (outside first q) refl)
 
-pub nothing_guarded : (first mid m : ℕ) (f : ℕ → Option ℕ) (n : ℕ) → mid ≤ first → handled f n ≡ handled (lowered_from first mid m f) n
-nothing_guarded first mid m f n h = alike f (lowered_from first mid m f) n (λ q l.
-    let e : (nat_le first q && nat_lt q mid) ≡ false = is_false _ (λ t.
-    let b = both_true (nat_le first q) (nat_lt q mid) t in
-    let x : first ≤ q = leb-true first q b.0 in
-    let y : q < mid = ltb-true q mid b.1 in
-    absurd (omega (arith, x, y, h))) in
-    rw e refl)
-
 join : (a b : Bool) → a ≡ true → b ≡ true → (a && b) ≡ true
 join a b h k = rw (h, k) refl
 

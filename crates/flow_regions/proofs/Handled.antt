@@ -28,14 +28,6 @@ numbers_last first (suc n) =
     let e : suc first + n ≡ first + suc n = omega arith in
     ap (λ l. first ∷ l) (numbers_last (suc first) n ∙ ap (λ m. numbers (suc first) n ++ m ∷ []) e)
 
--- what one more of them has
-pub of_next : {A : Type 0} (f : ℕ → A) (p : ℕ) (xs : List A) (x : A) → xs ≡ map f (numbers 0 p) → x ≡ f p → xs ++ x ∷ [] ≡ map f (numbers 0 (p + 1))
-of_next f p xs x e h =
-    let z : 0 + p ≡ p = omega arith in
-    let s : suc p ≡ p + 1 = omega arith in
-    (λ i. e i ++ h i ∷ []) ∙ sym (map-append f (numbers 0 p) (p ∷ []))
-    ∙ ap (map f) (ap (λ m. numbers 0 p ++ m ∷ []) (sym z) ∙ sym (numbers_last 0 p) ∙ ap (numbers 0) s)
-
 position_got : (xs : List Position) (p : ℕ) (d : Position) → p < length xs → slice_get xs p ≡ Some (get_or xs p d)
 position_got [] p d l = absurd (omega arith)
 position_got (x ∷ xs) zero d l = refl

@@ -3,7 +3,7 @@ use Rattle.std.proofs.Common.{◌≡◌, ◌⊎◌, inl, inr, ℕ, zero, suc, �
 use Rattle.std.proofs.lemmas.List.Elements.{Contains-append_left, Contains-append_right, Contains-push, Contains-push_cases, Contains-append_cases}
 use Rattle.std.proofs.lemmas.List.{length-replicate}
 use Rattle.func_analyze.specs.Problem.{HasStateOf, HasAboveOf, Covers, FlowsBelow, TableBelow, IsSolutionOf, IsLeastOf}
-use Rattle.func_analyze.specs.Worklist.{room, AllFit, Stays, Lifts, Puts}
+use Rattle.func_analyze.specs.Worklist.{room, AllFit, Lifts, Puts}
 
 -- the laws of a problem
 pub record Laws {State : Type 0} (below : State → State → Type 0) (fits : ℕ → State → Type 0) (positions : ℕ) (start : State)
@@ -104,19 +104,6 @@ module _ {State : Type 0} (below : State → State → Type 0) (fits : ℕ → S
   above_one T q s a p t m =
       let e = one_in (q, s) (p, t) m in
       subst (λ (x : ℕ × State). HasAboveOf below T x.0 x.1) e a
-
-  pub stays_puts : (T : List (Option State)) (V : List ℕ) (q : ℕ) (s : State) → AllFit fits T → Stays below (slice_get T q) s
-      → Puts below fits rank top T V ((q, s) ∷ []) T V
-  stays_puts T V q s fit w = record {
-    count = refl;
-    fit = fit;
-    rises = table_reflexive T;
-    covers = above_one T q s w;
-    changed = λ p. inl refl;
-    listed = λ p v. v;
-    least = λ X c r. r;
-    measure = omega arith;
-  }
 
   pub lifts_puts : (T : List (Option State)) (V : List ℕ) (q : ℕ) (s n : State) → length T ≡ positions → AllFit fits T → fits q n → Lifts below (slice_get T q) s n
       → Puts below fits rank top T V ((q, s) ∷ []) (slice_set T q (Some n)) (V ++ q ∷ [])

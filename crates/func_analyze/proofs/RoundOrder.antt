@@ -33,15 +33,6 @@ all_le tree [] (y ∷ ys) e h = absurd (omega arith)
 all_le tree (x ∷ xs) [] e h = absurd (omega arith)
 all_le tree (x ∷ xs) (y ∷ ys) e h = (h 0 x y refl refl, all_le tree xs ys (omega arith) (λ n s t i k. h (suc n) s t i k))
 
-le_at : (tree : Tree) (xs ys : List HType) (n : ℕ) (s t : HType) → AllLe tree xs ys → slice_get xs n ≡ Some s → slice_get ys n ≡ Some t → Le tree s t
-le_at tree [] ys n s t h i k = absurd (cc)
-le_at tree (x ∷ xs) [] n s t h i k = absurd h
-le_at tree (x ∷ xs) (y ∷ ys) zero s t h i k =
-    let a : x ≡ s = cc in
-    let b : y ≡ t = cc in
-    subst (λ t. Le tree s t) b (subst (λ s. Le tree s y) a h.0)
-le_at tree (x ∷ xs) (y ∷ ys) (suc n) s t h i k = le_at tree xs ys n s t h.1 i k
-
 pub found : {A : Type 0} (xs : List A) (n : ℕ) → n < length xs → (x : A) × (slice_get xs n ≡ Some x)
 found [] n h = absurd (omega arith)
 found (x ∷ xs) zero h = (x, refl)

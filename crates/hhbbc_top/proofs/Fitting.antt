@@ -66,39 +66,6 @@ differ b e f = absurd (cc (e, f))
 pub plain-unnamed : (t : HType) (b d : Bool) → IsTrue b ↔ IsNamed t → b ≡ false → IsTrue d ↔ IsOneInt t → IsTrue d ↔ IsPlainType t
 plain-unnamed t b d h not k = (λ s. one-plain t (k.0 s), λ p. elim (plain-or t p) [ inl n ↦ absurd (differ b not (h.1 n)) | inr i ↦ k.1 i ])
 
--- the operands of each instruction of the form
-pub null-alone : (count : ℕ) (os : List Imm) → FitsOperands count ops.Null os → os ≡ []
-null-alone count [] h = refl
-null-alone count (o ∷ os) h = absurd h
-
-pub true-alone : (count : ℕ) (os : List Imm) → FitsOperands count ops.True os → os ≡ []
-true-alone count [] h = refl
-true-alone count (o ∷ os) h = absurd h
-
-pub false-alone : (count : ℕ) (os : List Imm) → FitsOperands count ops.False os → os ≡ []
-false-alone count [] h = refl
-false-alone count (o ∷ os) h = absurd h
-
-pub pop-alone : (count : ℕ) (os : List Imm) → FitsOperands count ops.PopC os → os ≡ []
-pop-alone count [] h = refl
-pop-alone count (o ∷ os) h = absurd h
-
-pub return-alone : (count : ℕ) (os : List Imm) → FitsOperands count ops.RetC os → os ≡ []
-return-alone count [] h = refl
-return-alone count (o ∷ os) h = absurd h
-
-pub int-alone : (count : ℕ) (os : List Imm) → FitsOperands count ops.Int os → (i : ℤ) × (os ≡ imms.Int i ∷ [])
-int-alone count (imms.Int i ∷ []) h = (i, refl)
-int-alone count _ h = absurd h
-
-pub set-alone : (count : ℕ) (os : List Imm) → FitsOperands count ops.SetL os → (l : ℕ) × (os ≡ imms.Local l ∷ []) × (l < count)
-set-alone count (imms.Local l ∷ []) h = (l, refl, h)
-set-alone count _ h = absurd h
-
-pub get-alone : (count : ℕ) (os : List Imm) → FitsOperands count ops.CGetL os → (l : ℕ) × (os ≡ imms.Local l ∷ []) × (l < count)
-get-alone count (imms.Local l ∷ []) h = (l, refl, h)
-get-alone count _ h = absurd h
-
 all-one : {X : Type 0} (P : X → Type 0) (x : X) → P x → All P (x ∷ [])
 all-one P x h = All-cons P x [] h (All-nil P)
 
@@ -275,15 +242,6 @@ main_whole r b m f k types h = record {
   types = types;
   words = h.words;
 }
-
-one-same : (a b : Body) → a ∷ [] ≡ b ∷ [] → a ≡ b
-one-same a b e = cc
-
-pub not_whole : (r : Linked) (b : Body) → r.functions ≡ b ∷ [] → (IsSecondBody b → ⊥) → IsSecondForm r → ⊥
-not_whole r b f not form = not (subst IsSecondBody (one-same form.body b (sym form.functions ∙ f)) form.second)
-
-pub not_one : (r : Linked) → (length r.functions ≡ 1 → ⊥) → IsSecondForm r → ⊥
-not_one r not form = not (ap (λ (bs : List Body). length bs) form.functions)
 
 pub ok_whole : (r : Linked) (b : Body) (o : Result Main Unfit) → r.functions ≡ b ∷ [] → r.classes ≡ [] → Types r → IfOk o (λ m. IsMainIn b m) → IfOk o (λ m. IsMainOf r m)
 ok_whole r b (Ok m) f k types h = main_whole r b m f k types h

@@ -34,11 +34,7 @@ pub then_last : {V : Type 0} (w : Result V ShapeKind) → and_then w (λ v. Ok v
 then_last (Ok v) = refl
 then_last (Err k) = refl
 
--- checks of which the first ones pass, or fail
-pub later_stops : (xs ys : List Check) (stop : Stop) → first_fault xs ≡ None → StopsAs (first_fault ys) stop → StopsAs (first_fault (xs ++ ys)) stop
-later_stops xs ys (Fails k) e h = first_then xs ys e ∙ h
-later_stops xs ys NoMemory e h = tt
-
+-- checks of which the first ones fail
 pub front_stops : (xs ys : List Check) (stop : Stop) → StopsAs (first_fault xs) stop → StopsAs (first_fault (xs ++ ys)) stop
 front_stops xs ys (Fails k) h = first_fails xs ys (kind_of k) h
 front_stops xs ys NoMemory h = tt
