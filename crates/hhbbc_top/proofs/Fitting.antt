@@ -1,25 +1,19 @@
 -- Bodies of the form, and what is made of them.
-use Rattle.std.proofs.Common.{◌↔◌, ◌⊎◌, ◌+◌, ◌-◌, nat_le, get_or, is_some, drop, take, Contains, IsTrue, arith, ◌≡◌, ◌≢◌, ◌<◌, ◌≤◌, ℕ, ℤ, suc, refl, sym, ◌∙◌, ap, subst, Bool, true, false, ◌&&◌, List, [], ◌∷◌, ◌++◌, map, length, inl, inr, MatchOption, Option, Some, None, All, codes, cond, nat_eq, nat_lt, add-one, drop-cons, Result, Ok, Err, IfOk}
+use Rattle.std.proofs.Common.{◌↔◌, ◌⊎◌, ◌+◌, ◌-◌, get_or, is_some, drop, take, Contains, IsTrue, arith, ◌≡◌, ◌<◌, ◌≤◌, ℕ, suc, refl, sym, ◌∙◌, ap, subst, Bool, true, false, List, [], ◌∷◌, ◌++◌, map, length, inl, inr, Some, None, All, codes, cond, nat_eq, nat_lt, add-one, drop-cons, Result, Ok, Err, IfOk}
 use Rattle.std.proofs.Math.Seq.{take-suc}
-use Rattle.std.proofs.lemmas.List.{map-append, length-map}
+use Rattle.std.proofs.lemmas.List.{map-append}
 use Rattle.std.specs.Cmp.Lexicographic.{pointwise, bytes_decides}
 use Rattle.std.specs.List.{position_or_len}
 use Rattle.std.proofs.lemmas.Bool.Decides.{Decides-ltb, leb_tells}
-use Rattle.std.proofs.lemmas.List.Elements.{All-append, All-cons, All-drop, All-head, All-nil, All-tail, Contains-append_cases, Contains-append_right, Contains-push_cases}
+use Rattle.std.proofs.lemmas.List.Elements.{All-append, All-cons, All-head, All-nil, All-tail, Contains-append_cases, Contains-append_right, Contains-push_cases}
 use Rattle.std.proofs.lemmas.List.Sums.{fails_before_first, passes_at_first}
-use Rattle.hhbc_ops.specs.declared.op.Op.{Op}
-use Rattle.hhbc_ops.specs.declared.op.Op.TheVariants as ops
 use Rattle.type_lattice.specs.declared.types.HType.{HType}
-use Rattle.hhbc_repo.specs.declared.code.Code.{Code}
-use Rattle.hhbc_repo.specs.declared.code.Imm.{Imm}
-use Rattle.hhbc_repo.specs.declared.code.Imm.TheVariants as imms
 use Rattle.hhbc_repo.specs.declared.body.Assert.{Assert}
 use Rattle.hhbc_repo.specs.declared.body.Body.{Body}
 use Rattle.hhbc_repo.specs.declared.body.Position.{Position}
-use Rattle.hhbc_repo.specs.Codes.{pops, pushes}
-use Rattle.hhbc_repo.specs.Form.{AllDiffer, FitAsserts, FitsAssert, FitsOperands, FitsCode, FitsClaimed, FitClaimed, IsReturn, IsSecondBody, IsSecondForm}
+use Rattle.hhbc_repo.specs.Form.{AllDiffer, FitAsserts, FitsAssert, FitsClaimed, FitClaimed, IsReturn, IsSecondBody}
 use Rattle.hhbc_repo.specs.Linked.{Linked}
-use Rattle.hhbc_repo.specs.PlainTypes.{Never, Cell, Uninit, Null, False, True, Bool as BoolName, Int, Str, Named, OneInt, IsPlainType, TypeName, type_named, one_int}
+use Rattle.hhbc_repo.specs.PlainTypes.{Never, Cell, Uninit, Null, False, True, Bool as BoolName, Int, Str, Named, OneInt, IsPlainType, type_named}
 use Rattle.hhbc_repo.specs.LinkFaults.{place_in}
 use Rattle.hhbc_repo.specs.Shapes.{Types}
 use Rattle.func_analyze.specs.Laws.{IsWord, AreWords}
@@ -28,8 +22,8 @@ use Rattle.hhbbc_top.specs.declared.form.Step.TheVariants as steps
 use Rattle.hhbbc_top.specs.declared.form.Line.{Line}
 use Rattle.hhbbc_top.specs.declared.form.Main.{Main}
 use Rattle.hhbbc_top.specs.declared.form.Unfit.{Unfit}
-use Rattle.hhbbc_top.specs.Forms.{code_of, plain, position_of, body_of}
-use Rattle.hhbbc_top.specs.Mains.{AreCodes, AreLines, IsHead, IsLine, IsMainIn, IsMainOf, IsNamed, IsOneInt, IsStep, ends_from, is_return, returns_last}
+use Rattle.hhbbc_top.specs.Forms.{code_of, plain, position_of}
+use Rattle.hhbbc_top.specs.Mains.{AreCodes, AreLines, IsHead, IsLine, IsMainIn, IsMainOf, IsNamed, IsOneInt, ends_from, is_return, returns_last}
 
 wrong : IsTrue false → ⊥
 wrong h = absurd (cc h)

@@ -1,11 +1,11 @@
 -- Steps one after the other, which stop at the first that fails.
-use Rattle.std.proofs.Common.{◌≡◌, refl, ◌∙◌, ap, Option, None, Result, Ok, Err, List, ◌++◌}
+use Rattle.std.proofs.Common.{◌≡◌, refl, ◌∙◌, ap, Option, Result, Ok, Err, List, ◌++◌}
 use Rattle.hhbc_repo.specs.Shapes.{ShapeKind, Check, first_fault}
 use Rattle.stack_verify.specs.declared.shape.Stop.{Stop}
 use Rattle.stack_verify.specs.declared.shape.Stop.TheVariants.{Fails, NoMemory}
 use Rattle.stack_verify.specs.Kept.{StopsBy, kind_of}
 use Rattle.stack_verify.specs.Walk.{and_then, StopsAs}
-use Rattle.stack_verify.proofs.Following.{first_then, first_fails}
+use Rattle.stack_verify.proofs.Following.{first_fails}
 
 pub then_ok : {V W : Type 0} (w : Result V ShapeKind) (f : V → Result W ShapeKind) (v : V) → w ≡ Ok v → and_then w f ≡ f v
 then_ok w f v e = ap (λ w. and_then w f) e
