@@ -40,6 +40,7 @@ impl<'a> Reader<'a> {
     }
 
     /// Labels in angle brackets, one or more: the arms of a switch on ints.
+    #[inline(never)]
     pub fn arms(&mut self, alloc: Global) -> Result<Seq<ArmParts>, Stop>
         ensures { Reads any (Behind (Mark 60 ∷ []) ArmsToEnd) self.old result self.new }
     {
@@ -107,6 +108,7 @@ impl<'a> Reader<'a> {
     }
 
     /// Arms with strings and the default, in angle brackets: the arms of a switch on strings.
+    #[inline(never)]
     pub fn string_arms(&mut self, alloc: Global) -> Result<Seq<ArmParts>, Stop>
         ensures { Reads any (Behind (Mark 60 ∷ []) StringArmsToEnd) self.old result self.new }
     {

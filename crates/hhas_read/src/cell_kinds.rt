@@ -7,6 +7,7 @@ use crate::reader::{Piece, Reader, Stop};
 use hhbc_ops::{IsTypeOp, is_type_named};
 
 impl<'a> Reader<'a> {
+    #[inline(never)]
     pub fn is_type(&mut self) -> Result<IsTypeOp, Stop>
         ensures { Reads any AnIsType self.old result self.new }
     {

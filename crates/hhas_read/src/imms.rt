@@ -10,7 +10,8 @@ use hhbc_repo::ImmParts;
 use std::alloc::Global;
 
 impl<'a> Reader<'a> {
-    /// An operand of the kind.
+    /// An operand of the kind. The rules that are rare or take much room are kept from being inlined: with them, each operand
+    /// would pay for the room of all.
     pub fn operand(&mut self, alloc: Global, kind: ImmKind) -> Result<ImmParts, Stop>
         ensures { Reads (after kind) (Operand kind) self.old result self.new }
     {

@@ -9,6 +9,7 @@ use std::alloc::Global;
 
 impl<'a> Reader<'a> {
     /// `K` and a local, or nothing, and `V` and a local.
+    #[inline(never)]
     pub fn iter_locals(&mut self, alloc: Global) -> Result<(Option<Text>, Text), Stop>
         ensures { Reads any IterLocals self.old result self.new }
     {

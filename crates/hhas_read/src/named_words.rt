@@ -7,6 +7,7 @@ use crate::reader::{Piece, Reader, Stop};
 use hhbc_ops::{IncDecOp, QueryMode, SetOpOp, inc_dec_named, query_mode_named, set_op_named};
 
 impl<'a> Reader<'a> {
+    #[inline(never)]
     pub fn set_op(&mut self) -> Result<SetOpOp, Stop>
         ensures { Reads any ASetOp self.old result self.new }
     {
@@ -20,6 +21,7 @@ impl<'a> Reader<'a> {
         Ok(op)
     }
 
+    #[inline(never)]
     pub fn inc_dec(&mut self) -> Result<IncDecOp, Stop>
         ensures { Reads any AChange self.old result self.new }
     {

@@ -80,6 +80,7 @@ impl<'a> Reader<'a> {
     }
 
     /// The value of a string.
+    #[inline(never)]
     pub fn string(&mut self, alloc: Global) -> Result<Text, Stop>
         ensures { Reads any AString self.old result self.new }
     {

@@ -338,6 +338,7 @@ impl<'a> Reader<'a> {
     }
 
     /// A constraint: `Cell`, or atoms that name no single value.
+    #[inline(never)]
     pub fn constraint_parts(&mut self, alloc: Global) -> Result<TypeParts, Stop>
         ensures { Reads ends_type AConstraint self.old result self.new }
     {
