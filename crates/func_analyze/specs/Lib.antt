@@ -1,7 +1,5 @@
 pub mod Annotated
 pub mod Chain
-pub mod Climb
-pub mod ClimbLaws
 pub mod Dependencies
 pub mod Laws
 pub mod Problem

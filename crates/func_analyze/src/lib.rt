@@ -6,8 +6,6 @@ mod problem;
 mod round_laws;
 mod solution_laws;
 mod tally;
-#[cfg(test)]
-mod tests;
 mod worklist;
 
 pub use laws::{

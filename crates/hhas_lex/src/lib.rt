@@ -16,6 +16,3 @@ pub use laws::{
 pub use lexer::Lexer;
 pub use token::{LexFault, Token, TokenKind};
 pub use value::string_value;
-
-#[cfg(test)]
-mod tests;

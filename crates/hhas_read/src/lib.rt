@@ -51,14 +51,3 @@ pub use reading_back::{canonical_texts_are_read_back, repository_is_read_back};
 pub use texts::{PartsFault, read_parts};
 pub use types::TypeAtom;
 pub use whole_types::WrittenType;
-
-#[cfg(test)]
-mod tests_limits;
-#[cfg(test)]
-mod tests_links;
-#[cfg(test)]
-mod tests_look_ups;
-#[cfg(test)]
-mod tests_texts;
-#[cfg(test)]
-mod tests_values;

@@ -12,12 +12,6 @@ mod report;
 mod status;
 #[cfg(test)]
 mod tests;
-#[cfg(test)]
-mod tests_formats;
-#[cfg(test)]
-mod tests_repositories;
-#[cfg(test)]
-mod tests_shapes;
 mod top;
 mod words;
 

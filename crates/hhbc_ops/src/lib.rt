@@ -15,6 +15,3 @@ pub use word_names::{
     set_op_name, set_op_named,
 };
 pub use words::{Flavour, ImmKind, IncDecOp, IsTypeOp, QueryMode, SetOpOp};
-
-#[cfg(test)]
-mod tests;

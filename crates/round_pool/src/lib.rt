@@ -15,6 +15,3 @@ pub use queue_laws::{
     result_rounds_are_facts, rounds_give_one,
 };
 pub use worker::Worker;
-
-#[cfg(test)]
-mod tests;

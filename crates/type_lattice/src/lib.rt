@@ -22,6 +22,3 @@ pub use literal::of_literal;
 pub use order::le;
 pub use text::type_text;
 pub use types::{HType, IntPart, Leaf, ObjPart, Short, StrPart};
-
-#[cfg(test)]
-mod tests;

@@ -4,6 +4,3 @@
 mod member;
 
 pub use member::is_member;
-
-#[cfg(test)]
-mod tests;

@@ -2,9 +2,12 @@ ghost use Rattle.std.specs.Prelude.{◌≡◌, ◌*◌, ℕ, Bool, false, List, 
 ghost use Rattle.hhbc_repo.specs.Linked.{Linked};
 ghost use Rattle.round_pool.specs.ResultRounds.{by_results};
 
-use super::*;
 use func_analyze::{Tally, counted};
 use hack_values::NoMemory;
+use round_pool::{
+    Dependents, Gate, OpenGate, Worker, empty_queue_stays, pieces, queue_gives_round,
+    result_rounds_are_facts, rounds_give_one,
+};
 use std::alloc::Global;
 use std::sync::atomic::{AtomicBool, AtomicU64, Ordering};
 use std::test::Fail;

@@ -1,7 +1,7 @@
 -- Laws of the small graph on which the worklist is run.
 use Rattle.std.proofs.Common.{◌≡◌, ℕ, zero, suc, ◌<◌, ◌≤◌, max, ap, List, [], ◌∷◌, Contains, arith}
 use Rattle.func_analyze.specs.Problem.{FlowsBelow}
-use Rattle.func_analyze.specs.Climb.{targets, all_to, climbs, IsLevel}
+use Rattle.analysis_tests.specs.Climb.{targets, all_to, climbs, IsLevel}
 
 none_in : {A : Type 0} (x : A) → Contains [] x → ⊥
 none_in x (k, l, e) = absurd (omega arith)

@@ -1,7 +1,7 @@
 //! Look-ups in repositories that are read.
 
-use super::tests_links::answer_to;
-use super::*;
+use hack_values::Text;
+use hhas_read::read_text;
 use hhbc_repo::Repo;
 use std::alloc::Global;
 use std::process::Abort;
@@ -37,8 +37,12 @@ const MEMBERS: &[(u32, &[u8], Option<u32>, Option<u32>)] = &[
     (9, b"message", None, Some(0)),
 ];
 
-fn read(rt: &impl Abort, alloc: Global, text: &[u8]) -> Repo {
-    match answer_to(rt, alloc, text) {
+pub(crate) fn read(rt: &impl Abort, alloc: Global, text: &[u8]) -> Repo {
+    let Ok(text) = Text::from_bytes(alloc, text) else {
+        panic!(rt; "no memory");
+    };
+    assert!(rt; text.bytes().len() < 1000);
+    match read_text(alloc, &text) {
         Ok(repo) => repo,
         Err(_) => panic!(rt; "not read"),
     }

@@ -1,4 +1,7 @@
-use super::*;
+use hhbc_ops::{
+    ImmKind, Op, has_next, immediates, inc_dec_name, inc_dec_named, is_type_name, is_type_named,
+    may_throw, name_of, op_named, query_mode_name, query_mode_named, set_op_name, set_op_named,
+};
 use std::test::Fail;
 
 /// A line of the table: an instruction, its name, its operands, whether it may throw, and whether it has a next.

@@ -1,9 +1,9 @@
-use super::*;
 use hack_values::{Cell, DictVal, Heap, Key, KeysetVal, NoMemory, Object, Seq, Slot, Text, VecVal};
 use std::alloc::Global;
 use std::process::Abort;
 use std::test::Fail;
 use type_lattice::{ClassTree, HType, IntPart, Leaf, ObjPart, Short, StrPart};
+use type_truth::is_member;
 
 /// Class 1 descends from class 0, and class 2 from none.
 fn tree(alloc: Global) -> Result<Option<ClassTree>, NoMemory> {

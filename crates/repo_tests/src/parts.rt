@@ -1,6 +1,6 @@
 //! What texts say: types, and operands with their escapes.
 
-use super::*;
+use hhas_read::{Reader, is_reserved, read_parts};
 use hhbc_ops::Op;
 use hhbc_repo::{CodeParts, ImmParts, InstrParts, ItemParts};
 use std::alloc::Global;

@@ -1,4 +1,7 @@
-use super::*;
+use hack_values::{
+    BinOp, Cell, DictVal, Heap, Key, KeysetVal, NoMemory, Object, OpFault, Seq, Slot, Text, UnOp,
+    ValueFault, VecVal, binary, order, same, show, truthy, unary,
+};
 use std::alloc::Global;
 use std::cmp::Ordering;
 use std::test::Fail;

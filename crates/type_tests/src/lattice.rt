@@ -1,8 +1,13 @@
-use super::*;
 use hack_values::{Cell, DictVal, KeysetVal, NoMemory, Seq, Text, VecVal};
 use std::alloc::Global;
 use std::process::Abort;
 use std::test::Fail;
+use type_lattice::{
+    ClassTree, HType, IntPart, Leaf, ObjPart, StrPart, classes_are_ordered, depth_is_bounded,
+    height_is_bounded, join, join_is_least_above, keep, keep_is_greatest_below, le, le_is_order,
+    literal_is_least, literal_is_proper, members_stay, never_is_never, of_literal, type_text,
+    whole_is_above_cell,
+};
 
 /// The six built-in classes, then A, B below A, C below B, and D below Exception.
 const PARENTS: [Option<u32>; 10] = [

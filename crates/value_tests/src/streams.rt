@@ -1,7 +1,10 @@
 ghost use Rattle.std.specs.Prelude.{Some};
 
-use super::*;
 use hack_values::{Seq, Text};
+use hh_io::{
+    Failed, MemSink, MemSource, ReadError, Sink, Source, StdSink, StdSource, SteadySink,
+    SteadySource, read_all, write_all,
+};
 use std::io::{self, ErrorKind, Read, Write, pipe};
 use std::test::Fail;
 

@@ -1,5 +1,5 @@
-use super::*;
-use crate::TokenKind::{Directive, End, Integer, LessEqual, Local, Mark, Str, Word};
+use hhas_lex::TokenKind::{Directive, End, Integer, LessEqual, Local, Mark, Str, Word};
+use hhas_lex::{LexFault, Lexer, Token, TokenKind, string_value};
 use std::process::Abort;
 use std::test::Fail;
 

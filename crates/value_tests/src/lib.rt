@@ -1,0 +1,7 @@
+//! Tests of values, and of sources and sinks.
+#![tactic(auto)]
+
+#[cfg(test)]
+mod streams;
+#[cfg(test)]
+mod values;
