@@ -10,7 +10,7 @@ use Rattle.hhbc_repo.specs.Linked.{Linked}
 use Rattle.hhbc_repo.specs.Bodies.{body_at, code_at, tree_of}
 use Rattle.hhbc_repo.specs.Codes.{throws}
 use Rattle.hhbc_repo.specs.Edges.{handler_of}
-use Rattle.hhbc_repo.specs.Truth.{Facts}
+use Rattle.hhbc_semantics.specs.Truth.{Facts}
 use Rattle.abstract_step.specs.State.{State, StateLe}
 use Rattle.abstract_step.specs.Flow.{Row, Effect, row, to_behind, to_handler, exception_type, lives, has_type, completed, no_flows, code_flow, body_flow}
 use Rattle.abstract_step.specs.Laws.{FlowsLe, FlowIsMonotone, CodeFitsRow}

@@ -19,8 +19,8 @@ use Rattle.hhbc_repo.specs.declared.code.Imm.{Imm}
 use Rattle.hhbc_repo.specs.declared.body.Body.{Body}
 use Rattle.hhbc_repo.specs.Linked.{Linked}
 use Rattle.hhbc_repo.specs.Codes.{local_of, int_of}
-use Rattle.hhbc_repo.specs.Truth.{Facts}
-use Rattle.hhbc_repo.specs.Machine.{World, Frame, Turn, with_cell, read_slot, perform, perform_code}
+use Rattle.hhbc_semantics.specs.Truth.{Facts}
+use Rattle.hhbc_semantics.specs.Machine.{World, Frame, Turn, with_cell, read_slot, perform, perform_code}
 use Rattle.abstract_step.specs.State.{State, AllLe, StateLe}
 use Rattle.abstract_step.specs.Flow.{Row, nothing, undefined_row, with_type, with_local_type, op_row, row}
 pub use Rattle.abstract_step.specs.Laws.{Lies, LiesBehind, Fits}

@@ -15,7 +15,7 @@ use Rattle.hhbc_repo.specs.Linked.{Linked}
 use Rattle.hhbc_repo.specs.Bodies.{body_at, code_at}
 use Rattle.hhbc_repo.specs.Codes.{local_of, int_of, throws}
 use Rattle.hhbc_repo.specs.Edges.{handler_of}
-use Rattle.hhbc_repo.specs.Truth.{Facts}
+use Rattle.hhbc_semantics.specs.Truth.{Facts}
 use Rattle.abstract_step.specs.State.{State, is_alive}
 
 -- a property may hold a value of this type

@@ -1,12 +1,12 @@
 ghost use Rattle.std.specs.Prelude.{◌≤◌, IfOk};
 ghost use Rattle.analysis_tests.specs.Climb.{climbs, IsLevel};
 ghost use Rattle.func_analyze.specs.TypeAnalysis.{by_types};
-ghost use Rattle.hhbc_repo.specs.ShapeAnalysis.{by_shapes};
+ghost use Rattle.hhbc_semantics.specs.ShapeAnalysis.{by_shapes};
 ghost use Rattle.analysis_tests.specs.ClimbLaws.{climb_monotone, climb_leads, level_reflexive, level_transitive, level_enters, level_bounded, level_higher};
 
 use func_analyze::{Problem, least};
 use hack_values::NoMemory;
-use hhbc_repo::{Analysed, facts_stay_true, rounds_stay_true};
+use hhbc_semantics::{Analysed, facts_stay_true, rounds_stay_true};
 use std::alloc::Global;
 use std::test::Fail;
 

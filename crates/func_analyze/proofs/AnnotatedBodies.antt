@@ -8,8 +8,8 @@ use Rattle.hhbc_repo.specs.declared.repo.Property.{Property}
 use Rattle.hhbc_repo.specs.Linked.{Linked}
 use Rattle.hhbc_repo.specs.Bodies.{bodies}
 use Rattle.hhbc_repo.specs.Bare.{bare, bare_body, bare_position, bare_property, bare_class}
-use Rattle.hhbc_repo.specs.Truth.{Facts, stated_props, stated_returns}
-use Rattle.hhbc_repo.proofs.ShapeTables.{from_map}
+use Rattle.hhbc_semantics.specs.Truth.{Facts, stated_props, stated_returns}
+use Rattle.hhbc_repo.proofs.Elements.{from_map}
 use Rattle.func_analyze.specs.Solution.{Table}
 use Rattle.func_analyze.specs.Annotated.{with_claims, annotated_body, or_empty, annotated_bodies, annotated_properties, annotated_classes, annotated}
 

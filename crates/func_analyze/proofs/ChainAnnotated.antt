@@ -11,9 +11,9 @@ use Rattle.hhbc_repo.specs.declared.body.Position.{Position}
 use Rattle.hhbc_repo.specs.Linked.{Linked}
 use Rattle.hhbc_repo.specs.Bodies.{built_in_tree}
 use Rattle.hhbc_repo.specs.Bare.{bare_body, bare_position, bare}
-use Rattle.hhbc_repo.specs.Form.{FitPositions}
-use Rattle.hhbc_repo.specs.Truth.{Facts}
-use Rattle.hhbc_repo.proofs.FirstForm.{only, first_is}
+use Rattle.hhbc_semantics.specs.Form.{FitPositions}
+use Rattle.hhbc_semantics.specs.Truth.{Facts}
+use Rattle.hhbc_semantics.proofs.FirstForm.{only, first_is}
 use Rattle.abstract_step.specs.State.{entry_state}
 use Rattle.abstract_step.specs.Flow.{Effect, flow}
 use Rattle.func_analyze.specs.Solution.{Table, HasState, IsLeast}

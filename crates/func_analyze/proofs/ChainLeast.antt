@@ -16,9 +16,9 @@ use Rattle.hhbc_repo.specs.Bodies.{built_in_tree, code_at}
 use Rattle.hhbc_repo.specs.Bare.{bare_body, bare_position}
 use Rattle.hhbc_repo.specs.Codes.{throws}
 use Rattle.hhbc_repo.specs.Edges.{handler_of}
-use Rattle.hhbc_repo.specs.Form.{FitPositions, IsReturn}
-use Rattle.hhbc_repo.specs.Truth.{Facts}
-use Rattle.hhbc_repo.proofs.FirstForm.{only, built_in_transitive}
+use Rattle.hhbc_semantics.specs.Form.{FitPositions, IsReturn}
+use Rattle.hhbc_semantics.specs.Truth.{Facts}
+use Rattle.hhbc_semantics.proofs.FirstForm.{only, built_in_transitive}
 use Rattle.abstract_step.specs.State.{State, StateLe, entry_state, is_alive}
 use Rattle.abstract_step.specs.Flow.{Row, row, with_type, returns, to_behind, to_handler, lives, completed, code_flow, flow}
 use Rattle.abstract_step.proofs.StateOrder.{StateLe-refl, StateLe-trans, alive-le}

@@ -15,9 +15,9 @@ use Rattle.hhbc_repo.specs.declared.body.Position.{Position}
 use Rattle.hhbc_repo.specs.Linked.{Linked}
 use Rattle.hhbc_repo.specs.Bodies.{built_in_tree, code_at}
 use Rattle.hhbc_repo.specs.Bare.{bare_body}
-use Rattle.hhbc_repo.specs.Form.{FitPositions, IsReturn}
-use Rattle.hhbc_repo.specs.Truth.{Facts}
-use Rattle.hhbc_repo.proofs.FirstForm.{only}
+use Rattle.hhbc_semantics.specs.Form.{FitPositions, IsReturn}
+use Rattle.hhbc_semantics.specs.Truth.{Facts}
+use Rattle.hhbc_semantics.proofs.FirstForm.{only}
 use Rattle.abstract_step.specs.State.{State, entry_state}
 use Rattle.abstract_step.specs.Flow.{Row, Effect, Flows, with_type, with_local_type, goes, code_flow, flow, has_type}
 use Rattle.abstract_step.proofs.StateOrder.{never-le}

@@ -14,8 +14,8 @@ use Rattle.hhbc_repo.specs.declared.code.Imm.TheVariants as imms
 use Rattle.hack_values.specs.declared.cell.Cell.TheVariants as cells
 use Rattle.type_lattice.specs.declared.types.StrPart.TheVariants as strs
 use Rattle.hhbc_repo.specs.Linked.{Linked}
-use Rattle.hhbc_repo.specs.Outcome.{Outcome, Returned, Uncaught, AssertFalse, Steps}
-use Rattle.hhbc_repo.specs.Run.{run}
+use Rattle.hhbc_semantics.specs.Outcome.{Outcome, Returned, Uncaught, AssertFalse, Steps}
+use Rattle.hhbc_semantics.specs.Run.{run}
 use Rattle.hhbc_repo.specs.Shapes.{fault_at, Underflow, FallsOff}
 use Rattle.func_analyze.specs.Chain.{annotated_main}
 

@@ -13,17 +13,17 @@ use Rattle.hhbc_repo.specs.declared.repo.Class.{Class}
 use Rattle.hhbc_repo.specs.Linked.{Linked}
 use Rattle.hhbc_repo.specs.Bodies.{built_in_tree, built_in_counts, own_from, bodies, body_at, tree_of, property_counts, properties_of}
 use Rattle.hhbc_repo.specs.Bare.{bare, bare_class, bare_property}
-use Rattle.hhbc_repo.specs.Machine.{World, Frame, turn}
-use Rattle.hhbc_repo.specs.Steps.{Config, Running, Ended, steps_by}
-use Rattle.hhbc_repo.specs.Run.{after, entered, start}
-use Rattle.hhbc_repo.specs.Soundness.{At, Lies, Waiting, Sound, Solve, IsRoundBy, AreByRounds, Starts}
-use Rattle.hhbc_repo.specs.Soundness as soundness
-use Rattle.hhbc_repo.specs.Tested.{IsStopped}
-use Rattle.hhbc_repo.specs.Truth.{Facts, HoldIn, TrueOf, each}
-use Rattle.hhbc_repo.proofs.Starting.{starts}
-use Rattle.hhbc_repo.proofs.StaysTrue.{rounds_stay_true}
-use Rattle.hhbc_repo.proofs.Stripped.{same_start}
-use Rattle.hhbc_repo.proofs.TestedRuns.{tests_only_stop, after_steps}
+use Rattle.hhbc_semantics.specs.Machine.{World, Frame, turn}
+use Rattle.hhbc_semantics.specs.Steps.{Config, Running, Ended, steps_by}
+use Rattle.hhbc_semantics.specs.Run.{after, entered, start}
+use Rattle.hhbc_semantics.specs.Soundness.{At, Lies, Waiting, Sound, Solve, IsRoundBy, AreByRounds, Starts}
+use Rattle.hhbc_semantics.specs.Soundness as soundness
+use Rattle.hhbc_semantics.specs.Tested.{IsStopped}
+use Rattle.hhbc_semantics.specs.Truth.{Facts, HoldIn, TrueOf, each}
+use Rattle.hhbc_semantics.proofs.Starting.{starts}
+use Rattle.hhbc_semantics.proofs.StaysTrue.{rounds_stay_true}
+use Rattle.hhbc_semantics.proofs.Stripped.{same_start}
+use Rattle.hhbc_semantics.proofs.TestedRuns.{tests_only_stop, after_steps}
 use Rattle.abstract_step.specs.State.{StateLe}
 use Rattle.abstract_step.specs.Laws.{Lies as Inhabits}
 use Rattle.func_analyze.specs.Solution.{Table}

@@ -8,15 +8,15 @@ use Rattle.hhbc_repo.specs.Linked.{Linked}
 use Rattle.hhbc_repo.specs.Bodies.{bodies, body_at, tree_of, properties_of}
 use Rattle.hhbc_repo.specs.Bodies as parts
 use Rattle.hhbc_repo.specs.Bare.{bare}
-use Rattle.hhbc_repo.specs.Outcome.{Stuck}
-use Rattle.hhbc_repo.specs.Machine.{World, Frame, Returns, turn}
-use Rattle.hhbc_repo.specs.Steps.{Config, Running, Ended, next, steps_by}
-use Rattle.hhbc_repo.specs.Run.{test, asserts_in, asserts_of, tested, advance, after, start, state_after, result_of}
-use Rattle.hhbc_repo.specs.Truth.{Facts, HoldIn, ReturnsIn, TrueOf, ClaimsHold, IsNeverStuck, IsFaithful, stated_props, stated_returns, each}
-use Rattle.hhbc_repo.proofs.ShapeTables.{to_map}
-use Rattle.hhbc_repo.proofs.LocalCodes.{second_form_never_sticks}
-use Rattle.hhbc_repo.proofs.Stripped.{bare_again, same_start}
-use Rattle.hhbc_repo.proofs.TestedRuns.{after_steps}
+use Rattle.hhbc_semantics.specs.Outcome.{Stuck}
+use Rattle.hhbc_semantics.specs.Machine.{World, Frame, Returns, turn}
+use Rattle.hhbc_semantics.specs.Steps.{Config, Running, Ended, next, steps_by}
+use Rattle.hhbc_semantics.specs.Run.{test, asserts_in, asserts_of, tested, advance, after, start, state_after, result_of}
+use Rattle.hhbc_semantics.specs.Truth.{Facts, HoldIn, ReturnsIn, TrueOf, ClaimsHold, IsNeverStuck, IsFaithful, stated_props, stated_returns, each}
+use Rattle.hhbc_repo.proofs.Elements.{to_map}
+use Rattle.hhbc_semantics.proofs.LocalCodes.{second_form_never_sticks}
+use Rattle.hhbc_semantics.proofs.Stripped.{bare_again, same_start}
+use Rattle.hhbc_semantics.proofs.TestedRuns.{after_steps}
 use Rattle.func_analyze.specs.Solution.{Table}
 use Rattle.func_analyze.specs.Rounds.{IsFacts, AreLeast}
 use Rattle.func_analyze.specs.Annotated.{with_claims, or_empty, annotated}

@@ -12,7 +12,7 @@ use Rattle.hhbc_repo.specs.declared.code.Code.TheVariants as kinds
 use Rattle.hhbc_repo.specs.declared.code.Imm.{Imm}
 use Rattle.hhbc_repo.specs.declared.body.Body.{Body}
 use Rattle.hhbc_repo.specs.Codes.{local_of, throws}
-use Rattle.hhbc_repo.specs.Machine.{World, Frame, Turn, Goes, Calls, Returns, Raises, Ends, exception, undefined_variable, with_cell, read_slot, name_or_none, perform, perform_code}
+use Rattle.hhbc_semantics.specs.Machine.{World, Frame, Turn, Goes, Calls, Returns, Raises, Ends, exception, undefined_variable, with_cell, read_slot, name_or_none, perform, perform_code}
 
 -- a turn changes nothing that all frames share, but to raise the exception of an undefined variable, where it may throw
 abbrev pub Does : Bool → World → Turn → Type 0

@@ -12,8 +12,8 @@ use Rattle.hhbc_repo.specs.Linked.{Linked}
 use Rattle.hhbc_repo.specs.Bodies.{bodies, body_at, code_at, tree_of}
 use Rattle.hhbc_repo.specs.Codes.{throws}
 use Rattle.hhbc_repo.specs.Edges.{handler_of}
-use Rattle.hhbc_repo.specs.Truth.{Facts}
-use Rattle.hhbc_repo.proofs.ShapeTables.{from_map}
+use Rattle.hhbc_semantics.specs.Truth.{Facts}
+use Rattle.hhbc_repo.proofs.Elements.{from_map}
 use Rattle.abstract_step.specs.State.{State}
 use Rattle.abstract_step.specs.Flow.{Row, Flows, flow, code_flow, body_flow, completed, to_handler}
 use Rattle.abstract_step.proofs.Rows.{same_row}

@@ -4,7 +4,7 @@ use Rattle.hhbc_repo.specs.Linked.{Linked}
 use Rattle.hhbc_repo.specs.declared.body.Body.{Body}
 use Rattle.hhbc_repo.specs.declared.body.Position.{Position}
 use Rattle.hhbc_repo.specs.Bare.{bare, bare_body, bare_position}
-use Rattle.hhbc_repo.proofs.Stripped.{bare_again, bare_is_first_form}
+use Rattle.hhbc_semantics.proofs.Stripped.{bare_again, bare_is_first_form}
 use Rattle.func_analyze.specs.Rounds.{IsFacts, AreLeast}
 use Rattle.func_analyze.specs.Annotated.{annotated, IsAnnotated}
 use Rattle.func_analyze.specs.Chain.{annotated_by}

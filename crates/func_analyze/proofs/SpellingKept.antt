@@ -27,15 +27,15 @@ use Rattle.hhbc_repo.specs.Canonical.{before, canonical, canonical_assert, canon
 use Rattle.hhbc_repo.specs.Claims.{body_claims_within, claims_within, position_claims_within}
 use Rattle.hhbc_repo.specs.Codes.{Flavour, int_of, op_reads, pops, reads_locals}
 use Rattle.hhbc_repo.specs.Fits.{assert_fits, body_fits, class_fits, code_fits, is_index, item_fits, nests, operand_fits, operands_fit, parts_fit, position_fits}
-use Rattle.hhbc_repo.specs.Form.{FitClaimed, FitsCode, FitsOperands, IsSecondBody, IsSecondForm}
+use Rattle.hhbc_semantics.specs.Form.{FitClaimed, FitsCode, FitsOperands, IsSecondBody, IsSecondForm}
 use Rattle.hhbc_repo.specs.LinkFaults.{Name}
 use Rattle.hhbc_repo.specs.Linked.{Linked}
 use Rattle.hhbc_repo.specs.Spelled.{HasSpelling}
 use Rattle.hhbc_repo.specs.TypeFits.{type_fits, where_there}
 use Rattle.hhbc_repo.specs.Within.{Bounds, assert_within, bounds_of, local_within, type_within}
-use Rattle.hhbc_repo.proofs.FirstForm.{only, second_is}
+use Rattle.hhbc_semantics.proofs.FirstForm.{only, second_is}
 use Rattle.hhbc_repo.proofs.SpelledTypes.{all_back, all_both}
-use Rattle.hhbc_repo.proofs.Stripped.{bare_again}
+use Rattle.hhbc_semantics.proofs.Stripped.{bare_again}
 use Rattle.abstract_step.specs.State.{State, entry_state}
 use Rattle.func_analyze.specs.Annotated.{claim, claims, local_claims, stack_claims, with_claims}
 use Rattle.func_analyze.specs.Chain.{annotated_by, annotated_main, chain, returned_at_end, state_behind}

@@ -9,7 +9,7 @@ use Rattle.hhbc_repo.specs.Linked.{Linked}
 use Rattle.hhbc_repo.specs.Bodies.{body_at, code_at, tree_of}
 use Rattle.hhbc_repo.specs.Codes.{throws}
 use Rattle.hhbc_repo.specs.Edges.{handler_of}
-use Rattle.hhbc_repo.specs.Truth.{Facts}
+use Rattle.hhbc_semantics.specs.Truth.{Facts}
 use Rattle.abstract_step.specs.State.{State, StateLe, is_alive, entry_state}
 use Rattle.abstract_step.specs.Flow.{flow, row, body_flow, code_flow, to_behind, to_handler, lives}
 use Rattle.abstract_step.specs.Laws.{FactsLe}

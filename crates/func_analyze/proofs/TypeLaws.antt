@@ -17,13 +17,13 @@ use Rattle.hhbc_repo.specs.Linked.{Linked}
 use Rattle.hhbc_repo.specs.Bodies.{body_at, code_at, tree_of, properties_of}
 use Rattle.hhbc_repo.specs.Codes.{throws}
 use Rattle.hhbc_repo.specs.Edges.{handler_of}
-use Rattle.hhbc_repo.specs.Growth.{HeapGrows, WorldGrows}
-use Rattle.hhbc_repo.specs.Machine.{World, Frame, Turn, Goes, Calls, Returns, Raises, Ends, Fails, Sticks, exception, perform_code, turn_in}
-use Rattle.hhbc_repo.specs.Steps.{handler_in}
-use Rattle.hhbc_repo.specs.Run.{entered}
-use Rattle.hhbc_repo.specs.Soundness.{MayThrowAt, Led, GoesWith, Laws}
-use Rattle.hhbc_repo.specs.Truth.{Facts, HoldIn, each}
-use Rattle.hhbc_repo.proofs.Growing.{cell_in-grows, AreMembers-grows, append_grows, appended_class, appended_is}
+use Rattle.hhbc_semantics.specs.Growth.{HeapGrows, WorldGrows}
+use Rattle.hhbc_semantics.specs.Machine.{World, Frame, Turn, Goes, Calls, Returns, Raises, Ends, Fails, Sticks, exception, perform_code, turn_in}
+use Rattle.hhbc_semantics.specs.Steps.{handler_in}
+use Rattle.hhbc_semantics.specs.Run.{entered}
+use Rattle.hhbc_semantics.specs.Soundness.{MayThrowAt, Led, GoesWith, Laws}
+use Rattle.hhbc_semantics.specs.Truth.{Facts, HoldIn, each}
+use Rattle.hhbc_semantics.proofs.Growing.{cell_in-grows, AreMembers-grows, append_grows, appended_class, appended_is}
 use Rattle.abstract_step.specs.State.{State, StateLe, is_alive, entry_state}
 use Rattle.abstract_step.specs.Flow.{Flows, flow, row, completed, to_behind, to_handler, lives, exception_type}
 use Rattle.abstract_step.specs.Laws.{Lies, LiesBehind, Fits}

@@ -8,9 +8,9 @@ use Rattle.hhbc_repo.specs.declared.body.Position.{Position}
 use Rattle.hhbc_repo.specs.Linked.{Linked}
 use Rattle.hhbc_repo.specs.Bodies.{built_in_tree}
 use Rattle.hhbc_repo.specs.Bare.{bare_body}
-use Rattle.hhbc_repo.specs.Form.{IsFirstBody}
-use Rattle.hhbc_repo.specs.Truth.{Facts}
-use Rattle.hhbc_repo.proofs.FirstForm.{only, first_is, built_in_antisymmetric}
+use Rattle.hhbc_semantics.specs.Form.{IsFirstBody}
+use Rattle.hhbc_semantics.specs.Truth.{Facts}
+use Rattle.hhbc_semantics.proofs.FirstForm.{only, first_is, built_in_antisymmetric}
 use Rattle.abstract_step.specs.State.{State, StateLe}
 use Rattle.abstract_step.proofs.StateSame.{StateLe-antisym}
 use Rattle.func_analyze.specs.Solution.{Table, IsLeast}

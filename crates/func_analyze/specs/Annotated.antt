@@ -12,7 +12,7 @@ use Rattle.hhbc_repo.specs.declared.repo.Property.{Property}
 use Rattle.hhbc_repo.specs.Codes.{Flavour, pops, reads_locals}
 use Rattle.hhbc_repo.specs.Linked.{Linked}
 use Rattle.hhbc_repo.specs.Bare.{bare}
-use Rattle.hhbc_repo.specs.Truth.{Facts}
+use Rattle.hhbc_semantics.specs.Truth.{Facts}
 use Rattle.abstract_step.specs.State.{State}
 use Rattle.func_analyze.specs.Solution.{Table}
 use Rattle.func_analyze.specs.Rounds.{IsFacts, AreLeast}

@@ -6,7 +6,7 @@ use Rattle.hhbc_repo.specs.declared.body.Body.{Body}
 use Rattle.hhbc_repo.specs.declared.body.Position.{Position}
 use Rattle.hhbc_repo.specs.declared.code.Code.{Code}
 use Rattle.hhbc_repo.specs.Linked.{Linked}
-use Rattle.hhbc_repo.specs.Truth.{Facts}
+use Rattle.hhbc_semantics.specs.Truth.{Facts}
 use Rattle.abstract_step.specs.State.{State, is_alive, entry_state}
 use Rattle.abstract_step.specs.Flow.{Row, row}
 use Rattle.func_analyze.specs.Solution.{Table}

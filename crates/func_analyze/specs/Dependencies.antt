@@ -16,7 +16,7 @@ use Rattle.hhbc_repo.specs.declared.repo.Class.{Class}
 use Rattle.hhbc_repo.specs.declared.repo.Property.{Property}
 use Rattle.hhbc_repo.specs.Linked.{Linked}
 use Rattle.hhbc_repo.specs.Bodies.{body_at}
-use Rattle.hhbc_repo.specs.Truth.{Facts}
+use Rattle.hhbc_semantics.specs.Truth.{Facts}
 use Rattle.func_analyze.specs.Results.{BodyResult, IsResult}
 
 -- what functions of a name return, what methods of it return, and what properties of it hold

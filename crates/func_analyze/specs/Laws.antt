@@ -6,9 +6,9 @@ use Rattle.hhbc_repo.specs.declared.code.Code.TheVariants as kinds
 use Rattle.hhbc_repo.specs.declared.body.Position.{Position}
 use Rattle.hhbc_repo.specs.Codes.{int_of}
 use Rattle.hhbc_repo.specs.Linked.{Linked}
-use Rattle.hhbc_repo.specs.Form.{IsFirstForm, IsSecondForm}
+use Rattle.hhbc_semantics.specs.Form.{IsFirstForm, IsSecondForm}
 use Rattle.hhbc_repo.specs.Bare.{bare}
-use Rattle.hhbc_repo.specs.Truth.{Facts, AreTrue, IsNeverStuck, IsFaithful}
+use Rattle.hhbc_semantics.specs.Truth.{Facts, AreTrue, IsNeverStuck, IsFaithful}
 use Rattle.hhbc_repo.specs.Shapes.{Types}
 use Rattle.hhbc_repo.specs.Spelled.{HasSpelling}
 use Rattle.abstract_step.specs.State.{entry_state}

@@ -4,7 +4,7 @@ use Rattle.type_lattice.specs.declared.types.HType.{HType}
 use Rattle.type_lattice.specs.Proper.{IsJoin}
 use Rattle.hhbc_repo.specs.Linked.{Linked}
 use Rattle.hhbc_repo.specs.Bodies.{bodies, tree_of}
-use Rattle.hhbc_repo.specs.Truth.{Facts}
+use Rattle.hhbc_semantics.specs.Truth.{Facts}
 use Rattle.abstract_step.specs.State.{State}
 use Rattle.abstract_step.specs.Flow.{Effect, flow}
 use Rattle.func_analyze.specs.Solution.{Table, HasState, IsLeast}

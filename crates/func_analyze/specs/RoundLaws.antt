@@ -7,7 +7,7 @@ use Rattle.type_lattice.specs.Types.{cell}
 use Rattle.type_lattice.specs.Proper.{IsProper}
 use Rattle.hhbc_repo.specs.Linked.{Linked}
 use Rattle.hhbc_repo.specs.Bodies.{tree_of}
-use Rattle.hhbc_repo.specs.Truth.{Facts}
+use Rattle.hhbc_semantics.specs.Truth.{Facts}
 use Rattle.abstract_step.specs.State.{State}
 use Rattle.abstract_step.specs.Flow.{flow}
 use Rattle.abstract_step.specs.Laws.{FactsLe}

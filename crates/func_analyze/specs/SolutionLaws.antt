@@ -4,7 +4,7 @@ use Rattle.type_lattice.specs.Classes.{Tree, below}
 use Rattle.hhbc_repo.specs.declared.body.Body.{Body}
 use Rattle.hhbc_repo.specs.Linked.{Linked}
 use Rattle.hhbc_repo.specs.Bodies.{body_at, tree_of}
-use Rattle.hhbc_repo.specs.Truth.{Facts}
+use Rattle.hhbc_semantics.specs.Truth.{Facts}
 use Rattle.abstract_step.specs.State.{State, StateLe, is_alive, entry_state}
 use Rattle.abstract_step.specs.Flow.{flow}
 use Rattle.abstract_step.specs.Laws.{FactsLe}

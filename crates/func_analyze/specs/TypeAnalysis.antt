@@ -8,12 +8,12 @@ use Rattle.hhbc_repo.specs.declared.body.Body.{Body}
 use Rattle.hhbc_repo.specs.Linked.{Linked}
 use Rattle.hhbc_repo.specs.Bodies.{body_at, tree_of}
 use Rattle.hhbc_repo.specs.Bare.{bare}
-use Rattle.hhbc_repo.specs.Growth.{WorldGrows}
-use Rattle.hhbc_repo.specs.Machine.{Frame, turn}
-use Rattle.hhbc_repo.specs.Steps.{Config, Running, Ended}
-use Rattle.hhbc_repo.specs.Run.{state_after}
-use Rattle.hhbc_repo.specs.Soundness.{Analysis, MayThrowAt}
-use Rattle.hhbc_repo.specs.Truth.{Facts, HoldIn, AreArguments, each}
+use Rattle.hhbc_semantics.specs.Growth.{WorldGrows}
+use Rattle.hhbc_semantics.specs.Machine.{Frame, turn}
+use Rattle.hhbc_semantics.specs.Steps.{Config, Running, Ended}
+use Rattle.hhbc_semantics.specs.Run.{state_after}
+use Rattle.hhbc_semantics.specs.Soundness.{Analysis, MayThrowAt}
+use Rattle.hhbc_semantics.specs.Truth.{Facts, HoldIn, AreArguments, each}
 use Rattle.abstract_step.specs.State.{State, StateLe, entry_state}
 use Rattle.abstract_step.specs.Flow.{flow, exception_type}
 use Rattle.abstract_step.specs.Laws.{Lies}

@@ -11,7 +11,7 @@ use crate::token::{LexFault, Token, TokenKind};
 use std::marker::Model;
 
 /// The tokens of a text, one after the other.
-#[derive(Debug, Drop)]
+#[derive(Drop)]
 pub struct Lexer<'a> {
     text: &'a [u8],
     at: usize,

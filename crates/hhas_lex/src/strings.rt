@@ -7,7 +7,7 @@ ghost use Rattle.hhas_lex.specs.Strings.{IsSmall, step, given, closes, value_of}
 ghost use Rattle.hhas_lex.specs.Fronts.{LongestFront, NoFront};
 
 /// How the reading of a string stands.
-#[derive(Clone, Copy, Debug)]
+#[derive(Clone, Copy)]
 pub enum Mode {
     /// Between two pieces.
     Plain,

@@ -27,7 +27,7 @@ pub enum Head {
 }
 
 /// An atom as it is written, its container whole.
-#[derive(Debug, Drop)]
+#[derive(Drop)]
 pub enum Atom {
     Null,
     False,

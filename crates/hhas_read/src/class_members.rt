@@ -14,7 +14,7 @@ use hhbc_repo::{BodyParts, Const, PropertyParts, TypeParts};
 use std::alloc::Global;
 
 /// A member of a class.
-#[derive(Debug, Drop)]
+#[derive(Drop)]
 pub enum Member {
     Const(Const),
     Property(PropertyParts),

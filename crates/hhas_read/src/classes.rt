@@ -12,7 +12,7 @@ use hhbc_repo::{BodyParts, ClassParts, Const, PropertyParts};
 use std::alloc::Global;
 
 /// The members of a class, those of each kind in their order.
-#[derive(Debug, Drop)]
+#[derive(Drop)]
 pub struct Members {
     pub consts: Seq<Const>,
     pub props: Seq<PropertyParts>,

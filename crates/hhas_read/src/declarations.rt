@@ -16,7 +16,7 @@ use std::alloc::Global;
 use std::marker::Model;
 
 /// What stands in a text.
-#[derive(Debug, Drop)]
+#[derive(Drop)]
 pub enum Declaration {
     Function(BodyParts),
     Class(ClassParts),

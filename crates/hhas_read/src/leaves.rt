@@ -13,7 +13,7 @@ use hack_values::Seq;
 use std::alloc::Global;
 
 /// What stands in the brackets of a container, as it is written.
-#[derive(Debug, Drop)]
+#[derive(Drop)]
 pub enum Written {
     Never,
     Cell,

@@ -14,7 +14,7 @@ use crate::reader::{Reader, Stop};
 use std::alloc::Global;
 
 /// An atom of a type as it is written. `Plain` has no brackets.
-#[derive(Debug, Drop)]
+#[derive(Drop)]
 pub enum TypeAtom {
     Uninit,
     Plain(Atom),

@@ -16,7 +16,7 @@ use hack_values::Seq;
 use std::alloc::Global;
 
 /// A type as it is written. `Uninit` stands first of the atoms, if it is one.
-#[derive(Debug, Drop)]
+#[derive(Drop)]
 pub enum WrittenType {
     Never,
     Cell,

@@ -11,9 +11,9 @@ use Rattle.type_lattice.specs.declared.types.HType.{HType}
 use Rattle.hhbc_repo.specs.declared.body.Assert.{Assert}
 use Rattle.hhbc_repo.specs.declared.body.Body.{Body}
 use Rattle.hhbc_repo.specs.declared.body.Position.{Position}
-use Rattle.hhbc_repo.specs.Form.{AllDiffer, FitAsserts, FitsAssert, FitsClaimed, FitClaimed, IsReturn, IsSecondBody}
+use Rattle.hhbc_semantics.specs.Form.{AllDiffer, FitAsserts, FitsAssert, FitsClaimed, FitClaimed, IsReturn, IsSecondBody}
 use Rattle.hhbc_repo.specs.Linked.{Linked}
-use Rattle.hhbc_repo.specs.PlainTypes.{Never, Cell, Uninit, Null, False, True, Bool as BoolName, Int, Str, Named, OneInt, IsPlainType, type_named}
+use Rattle.hhbc_semantics.specs.PlainTypes.{Never, Cell, Uninit, Null, False, True, Bool as BoolName, Int, Str, Named, OneInt, IsPlainType, type_named}
 use Rattle.hhbc_repo.specs.LinkFaults.{place_in}
 use Rattle.hhbc_repo.specs.Shapes.{Types}
 use Rattle.func_analyze.specs.Laws.{IsWord, AreWords}

@@ -12,14 +12,14 @@ use Rattle.hhbc_repo.specs.Linked.{Linked}
 use Rattle.hhbc_repo.specs.Bare.{bare, bare_position}
 use Rattle.hhbc_repo.specs.CanonicalText.{canonical_text}
 use Rattle.hhbc_repo.specs.Spelled.{HasSpelling}
-use Rattle.hhbc_repo.specs.Form.{IsSecondForm}
+use Rattle.hhbc_semantics.specs.Form.{IsSecondForm}
 use Rattle.hhbc_repo.specs.Shapes.{Types, ShapeKind, FailsAt, IsFirstFault, fault_at}
 use Rattle.hhbc_repo.specs.Bodies.{bodies, body_at}
 use Rattle.hhbc_repo.specs.TextSyntax.{FirstFault}
-use Rattle.hhbc_repo.specs.Truth.{IsNeverStuck, SecondFormNeverSticks}
-use Rattle.hhbc_repo.specs.Outcome as outcomes
-use Rattle.hhbc_repo.specs.Outcome.{Outcome, Underflow}
-use Rattle.hhbc_repo.specs.Run.{Result as Ran, run}
+use Rattle.hhbc_semantics.specs.Truth.{IsNeverStuck, SecondFormNeverSticks}
+use Rattle.hhbc_semantics.specs.Outcome as outcomes
+use Rattle.hhbc_semantics.specs.Outcome.{Outcome, Underflow}
+use Rattle.hhbc_semantics.specs.Run.{Result as Ran, run}
 use Rattle.hhas_read.specs.LinkedTexts.{LinksWithFault, ReadsRepository}
 use Rattle.hhas_read.proofs.ReadBack.{repositories_one}
 use Rattle.func_analyze.specs.Laws.{AnnotatedHasSpelling, AreWords, BareChainAnnotates, SecondIsFaithful, SecondIsUnique}

@@ -11,9 +11,9 @@ use Rattle.hhbc_repo.specs.Bare.{bare, bare_body, bare_position}
 use Rattle.hhbc_repo.specs.Bodies.{built_in_tree, code_at, asserts_at}
 use Rattle.hhbc_repo.specs.Bodies as bodies
 use Rattle.hhbc_repo.specs.Linked.{Linked}
-use Rattle.hhbc_repo.specs.Outcome.{Outcome, Steps, Stuck, Underflow}
-use Rattle.hhbc_repo.specs.Run.{advance, after, start, test, tested, no_world, result_of, run}
-use Rattle.hhbc_repo.specs.Steps.{Config, Running, Ended, finish}
+use Rattle.hhbc_semantics.specs.Outcome.{Outcome, Steps, Stuck, Underflow}
+use Rattle.hhbc_semantics.specs.Run.{advance, after, start, test, tested, no_world, result_of, run}
+use Rattle.hhbc_semantics.specs.Steps.{Config, Running, Ended, finish}
 use Rattle.hhbbc_top.specs.declared.form.Line.{Line}
 use Rattle.hhbbc_top.specs.declared.form.Main.{Main}
 use Rattle.hhbbc_top.specs.declared.machine.Ending.{Ending}
@@ -22,7 +22,7 @@ use Rattle.hhbbc_top.specs.declared.machine.Machine.{Machine}
 use Rattle.hhbbc_top.specs.declared.machine.Turn.TheVariants as turns
 use Rattle.hhbbc_top.specs.declared.machine.Turn.{Turn as Did}
 use Rattle.hhbbc_top.specs.declared.machine.Value.{Value}
-use Rattle.hhbc_repo.specs.Machine.{World, Frame, Goes, Returns, perform_code, with_cell, ahead, set_local}
+use Rattle.hhbc_semantics.specs.Machine.{World, Frame, Goes, Returns, perform_code, with_cell, ahead, set_local}
 use Rattle.hhbbc_top.specs.Forms.{code_of, position_of, body_of, repo_of}
 use Rattle.hhbbc_top.specs.Running.{cell_of, full, slot_of, frame_of, config_of, turn_of, outcome_of, HasEnded, Turned}
 

@@ -8,11 +8,11 @@ use Rattle.hh_io.specs.Sinks.{Takes, TakesPart}
 use Rattle.hhbc_repo.specs.declared.link_fault.LinkFault.{LinkFault}
 use Rattle.hhbc_repo.specs.Linked.{Linked}
 use Rattle.hhbc_repo.specs.CanonicalText.{canonical_text}
-use Rattle.hhbc_repo.specs.Form.{IsSecondForm}
+use Rattle.hhbc_semantics.specs.Form.{IsSecondForm}
 use Rattle.hhbc_repo.specs.Shapes.{Types}
 use Rattle.hhbc_repo.specs.TextSyntax.{FirstFault}
-use Rattle.hhbc_repo.specs.Run.{Result as Ran, run}
-use Rattle.hhbc_repo.specs.Truth.{IsFaithful}
+use Rattle.hhbc_semantics.specs.Run.{Result as Ran, run}
+use Rattle.hhbc_semantics.specs.Truth.{IsFaithful}
 use Rattle.hhas_read.specs.LinkedTexts.{LinksWithFault, ReadsRepository}
 use Rattle.func_analyze.specs.Annotated.{IsAnnotated}
 use Rattle.hhbbc_top.specs.declared.status.Status.{Status}

@@ -4,9 +4,9 @@ use Rattle.type_lattice.specs.declared.types.HType.{HType}
 use Rattle.hhbc_repo.specs.declared.code.Code.{Code}
 use Rattle.hhbc_repo.specs.declared.body.Body.{Body}
 use Rattle.hhbc_repo.specs.declared.body.Position.{Position}
-use Rattle.hhbc_repo.specs.Form.{FitsCode, FitsStated, FitsClaimed, FitClaimed, IsSecondBody, IsSecondForm}
+use Rattle.hhbc_semantics.specs.Form.{FitsCode, FitsStated, FitsClaimed, FitClaimed, IsSecondBody, IsSecondForm}
 use Rattle.hhbc_repo.specs.Linked.{Linked}
-use Rattle.hhbc_repo.specs.PlainTypes.{TypeName, one_int, type_named}
+use Rattle.hhbc_semantics.specs.PlainTypes.{TypeName, one_int, type_named}
 use Rattle.hhbc_repo.specs.Shapes.{Types}
 use Rattle.func_analyze.specs.Laws.{IsWord, AreWords}
 use Rattle.hhbbc_top.specs.declared.form.Step.{Step}

@@ -1,7 +1,7 @@
 -- Texts by what they spell: a repository, and one of the form that is annotated and run.
 use Rattle.std.specs.Prelude.{◌≡◌, ℕ, List}
 use Rattle.hhbc_repo.specs.Linked.{Linked}
-use Rattle.hhbc_repo.specs.Form.{IsSecondForm}
+use Rattle.hhbc_semantics.specs.Form.{IsSecondForm}
 use Rattle.hhbc_repo.specs.LinkFaults.{Whole}
 use Rattle.hhbc_repo.specs.Shapes.{Types}
 use Rattle.hhbc_repo.specs.TextSyntax.{FirstFault, Spells}

@@ -9,7 +9,7 @@ use Rattle.hhbc_repo.specs.declared.body.Body.{Body}
 use Rattle.hhbc_repo.specs.declared.repo.Class.{Class}
 use Rattle.hhbc_repo.specs.Linked.{Linked}
 use Rattle.hhbc_repo.specs.Bodies.{class_names}
-use Rattle.hhbc_repo.specs.Outcome.{Outcome, Place, Returned, Uncaught, Fatal, AssertFalse, Steps, Stuck, UnknownEntry, WrongCount}
+use Rattle.hhbc_semantics.specs.Outcome.{Outcome, Place, Returned, Uncaught, Fatal, AssertFalse, Steps, Stuck, UnknownEntry, WrongCount}
 use Rattle.hhbbc_top.specs.declared.status.Status.{Status}
 use Rattle.hhbbc_top.specs.declared.status.Status.TheVariants as statuses
 

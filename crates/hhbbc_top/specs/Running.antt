@@ -5,12 +5,12 @@ use Rattle.hack_values.specs.declared.cell.Cell.TheVariants as cells
 use Rattle.hack_values.specs.declared.cell.Slot.{Slot}
 use Rattle.hack_values.specs.declared.cell.Slot.TheVariants as slots
 use Rattle.hack_values.specs.declared.memory.NoMemory.{NoMemory}
-use Rattle.hhbc_repo.specs.Machine.{Frame, undefined_variable, raises, name_or_none}
-use Rattle.hhbc_repo.specs.Machine as machines
-use Rattle.hhbc_repo.specs.Outcome.{Outcome, Place, Underflow}
-use Rattle.hhbc_repo.specs.Outcome as outcomes
-use Rattle.hhbc_repo.specs.Run.{no_world}
-use Rattle.hhbc_repo.specs.Steps.{Config, Running, Ended}
+use Rattle.hhbc_semantics.specs.Machine.{Frame, undefined_variable, raises, name_or_none}
+use Rattle.hhbc_semantics.specs.Machine as machines
+use Rattle.hhbc_semantics.specs.Outcome.{Outcome, Place, Underflow}
+use Rattle.hhbc_semantics.specs.Outcome as outcomes
+use Rattle.hhbc_semantics.specs.Run.{no_world}
+use Rattle.hhbc_semantics.specs.Steps.{Config, Running, Ended}
 use Rattle.hhbbc_top.specs.declared.machine.Value.{Value}
 use Rattle.hhbbc_top.specs.declared.machine.Value.TheVariants as values
 use Rattle.hhbbc_top.specs.declared.machine.Machine.{Machine}

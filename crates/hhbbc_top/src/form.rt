@@ -1,10 +1,10 @@
 //! The one function of a repository of the form that is annotated and run: `main`, without parameters, of constants, locals and one `RetC` at its end, with claims of plain types.
 
 ghost use Rattle.std.specs.Prelude.{◌≡◌, ◌≢◌, ◌↔◌, ◌<◌, ℕ, ℤ, [], ◌∷◌, All, Err, IfOk, IsTrue, MatchOption, Some, codes};
-ghost use Rattle.hhbc_repo.specs.Form.{IsSecondForm};
-ghost use Rattle.hhbc_repo.specs.Form as forms;
+ghost use Rattle.hhbc_semantics.specs.Form.{IsSecondForm};
+ghost use Rattle.hhbc_semantics.specs.Form as forms;
 ghost use Rattle.hhbc_repo.specs.LinkFaults.{place_in};
-ghost use Rattle.hhbc_repo.specs.PlainTypes as types;
+ghost use Rattle.hhbc_semantics.specs.PlainTypes as types;
 ghost use Rattle.hhbc_repo.specs.Shapes.{Types};
 ghost use Rattle.hhbc_repo.specs.declared.code.Imm.TheVariants as imms;
 ghost use Rattle.type_lattice.specs.Types as lattice;
@@ -18,7 +18,7 @@ use std::alloc::Global;
 use type_lattice::{HType, IntPart, Leaf, ObjPart, StrPart};
 
 /// A code. Locals are numbers.
-#[derive(Clone, Copy, Debug, PartialEq, Eq)]
+#[derive(Clone, Copy, PartialEq, Eq)]
 pub enum Step {
     Null,
     True,
@@ -46,7 +46,7 @@ pub struct Main {
 }
 
 /// Why a repository has no such function.
-#[derive(Clone, Copy, Debug, PartialEq, Eq)]
+#[derive(Clone, Copy, PartialEq, Eq)]
 pub enum Unfit {
     /// The repository isn't of the form.
     OtherForm,

@@ -6,8 +6,8 @@ ghost use Rattle.hack_values.specs.declared.cell.Slot.TheVariants as slots;
 ghost use Rattle.type_lattice.specs.Member as members;
 ghost use Rattle.hhbc_repo.specs.declared.body.Body.{Body};
 ghost use Rattle.hhbc_repo.specs.Bodies.{built_in_tree};
-ghost use Rattle.hhbc_repo.specs.Machine as machines;
-ghost use Rattle.hhbc_repo.specs.Run as runs;
+ghost use Rattle.hhbc_semantics.specs.Machine as machines;
+ghost use Rattle.hhbc_semantics.specs.Run as runs;
 ghost use Rattle.hhbbc_top.specs.Forms.{code_of, repo_of};
 ghost use Rattle.hhbbc_top.specs.Running as running;
 
@@ -18,7 +18,7 @@ use std::alloc::Global;
 use type_lattice::{HType, IntPart};
 
 /// A cell of the kinds that constants of the form make.
-#[derive(Clone, Copy, Debug, PartialEq, Eq)]
+#[derive(Clone, Copy, PartialEq, Eq)]
 pub enum Value {
     Null,
     Bool(bool),
@@ -26,7 +26,7 @@ pub enum Value {
 }
 
 /// How a run ended. Places are numbers of codes.
-#[derive(Clone, Copy, Debug, PartialEq, Eq)]
+#[derive(Clone, Copy, PartialEq, Eq)]
 pub enum Ending {
     Returned(Value),
     /// A local that isn't set was read, and nothing caught that.
@@ -51,7 +51,7 @@ pub struct Machine {
 }
 
 /// What a code did.
-#[derive(Clone, Copy, Debug, PartialEq, Eq)]
+#[derive(Clone, Copy, PartialEq, Eq)]
 pub enum Turn {
     Goes,
     Returns(Value),

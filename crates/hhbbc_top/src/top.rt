@@ -9,7 +9,7 @@ ghost use Rattle.hhas_read.specs.LinkedTexts.{IsReadFault};
 ghost use Rattle.hhbc_repo.specs.Linked.{Linked};
 ghost use Rattle.hhbc_repo.specs.Shapes.{Types};
 ghost use Rattle.hhbc_repo.specs.Spelled.{HasSpelling};
-ghost use Rattle.hhbc_repo.specs.Truth.{IsNeverStuck};
+ghost use Rattle.hhbc_semantics.specs.Truth.{IsNeverStuck};
 ghost use Rattle.func_analyze.specs.Chain.{annotated_by};
 ghost use Rattle.stack_verify.specs.Verified.{IsRefused};
 ghost use Rattle.hhbbc_top.specs.Answer as answers;
@@ -35,7 +35,8 @@ use hhas_read::{
     text_spells_one_repository,
 };
 use hhas_write::write_text;
-use hhbc_repo::{Repo, second_form_never_sticks};
+use hhbc_repo::Repo;
+use hhbc_semantics::second_form_never_sticks;
 use stack_verify::{VerifyFault, verify};
 use std::alloc::Global;
 

@@ -8,7 +8,7 @@ ghost use Rattle.hhbbc_top.specs.Words as words;
 use hack_values::Text;
 
 /// What the program is to do.
-#[derive(Clone, Copy, Debug, PartialEq, Eq)]
+#[derive(Clone, Copy, PartialEq, Eq)]
 pub enum Command {
     /// Reads, links and verifies the text.
     Check,

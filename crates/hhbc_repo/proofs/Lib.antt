@@ -2,20 +2,8 @@ pub mod Elements
 pub mod Numbering
 pub mod PartsOfTypes
 pub mod PartsThatFit
-pub mod FirstForm
-pub mod Growing
-pub mod LocalCodes
-pub mod SampleTrue
-pub mod ShapeLaws
-pub mod ShapeTables
-pub mod Starting
-pub mod StaysTrue
-pub mod Stripped
 mod LinkExamples
-pub mod TestedRuns
-pub mod Walking
 pub mod SyntaxExamples
-mod SampleExamples
 pub mod HomesFound
 pub mod Inherited
 pub mod Keyed

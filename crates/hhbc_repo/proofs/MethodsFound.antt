@@ -14,7 +14,7 @@ use Rattle.hhbc_repo.specs.LookUps.{IsMethodOf, all_methods, first_some, functio
 use Rattle.hhbc_repo.proofs.Numbered.{numbers-get}
 use Rattle.hhbc_repo.proofs.NumbersPut.{place_inside}
 use Rattle.hhbc_repo.proofs.NumbersPut.{same_name}
-use Rattle.hhbc_repo.proofs.ShapeTables.{before_last, from_map, to_map}
+use Rattle.hhbc_repo.proofs.Elements.{before_last, from_map, to_map}
 
 behind_first : {A : Type 0} (xs ys : List A) (n : ℕ) → slice_get (xs ++ ys) (length xs + n) ≡ slice_get ys n
 behind_first [] ys n = ap (slice_get ys) (omega arith)

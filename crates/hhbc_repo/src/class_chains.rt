@@ -9,7 +9,7 @@ ghost use Rattle.hhbc_repo.specs.declared.class_chains.ChainFault.TheVariants as
 const MOST_CLASSES: usize = 64;
 
 /// What is wrong with the ancestors of a class.
-#[derive(Clone, Copy, Debug, PartialEq, Eq)]
+#[derive(Clone, Copy, PartialEq, Eq)]
 pub(crate) enum ChainFault {
     /// The class is one of them.
     Cycle,

@@ -48,11 +48,9 @@ pub(crate) fn built_in_parents(alloc: Global) -> Result<Seq<Option<u32>>, NoMemo
 {
     let mut parents = Seq::new(alloc);
     parents.push(None)?;
-    parents.push(Some(0))?;
-    parents.push(Some(0))?;
-    parents.push(Some(0))?;
-    parents.push(Some(0))?;
-    parents.push(Some(0))?;
+    for _ in 0..5_usize {
+        parents.push(Some(0))?;
+    }
     Ok(parents)
 }
 

@@ -3,14 +3,14 @@ use hhbc_ops::{IncDecOp, IsTypeOp, Op, QueryMode, SetOpOp};
 use type_lattice::HType;
 
 /// A code: an instruction, or a member sequence, which is one code from its base to its final.
-#[derive(Debug, Drop)]
+#[derive(Drop)]
 pub enum Code {
     Plain(Instr),
     Member(MemberSeq),
 }
 
 /// An instruction and its operands, in order.
-#[derive(Debug, Drop)]
+#[derive(Drop)]
 pub struct Instr {
     pub op: Op,
     pub imms: Seq<Imm>,
@@ -18,7 +18,7 @@ pub struct Instr {
 
 /// An operand. Locals, iterators, positions and classes are numbers; a pair of iterator locals
 /// is the key's, where it is told, and the value's.
-#[derive(Debug, Drop)]
+#[derive(Drop)]
 pub enum Imm {
     Int(i64),
     Count(u16),
@@ -37,14 +37,14 @@ pub enum Imm {
 }
 
 /// An arm of a switch. Without a text it is taken by its place, or is the default.
-#[derive(Debug, Drop)]
+#[derive(Drop)]
 pub struct Arm {
     pub text: Option<Text>,
     pub target: u32,
 }
 
 /// A base, the keys that lead away from it, and what is done at the last one.
-#[derive(Debug, Drop)]
+#[derive(Drop)]
 pub struct MemberSeq {
     pub base: Base,
     pub dims: Seq<MemberKey>,
@@ -52,7 +52,7 @@ pub struct MemberSeq {
 }
 
 /// Where a member sequence begins: a local, a slot counted from the top of the stack, or `$this`.
-#[derive(Clone, Copy, Debug)]
+#[derive(Clone, Copy)]
 pub enum Base {
     Local(u8),
     Stack(u8),
@@ -61,7 +61,7 @@ pub enum Base {
 
 /// A key of a member sequence: of an element, of a property, of a property of an object or null,
 /// or the place behind the last element.
-#[derive(Debug, Drop)]
+#[derive(Drop)]
 pub enum MemberKey {
     ElemStack(u8),
     ElemLocal(u8),
@@ -75,7 +75,7 @@ pub enum MemberKey {
 }
 
 /// What a member sequence does at its last key. The number is that of the slots that it drops.
-#[derive(Debug, Drop)]
+#[derive(Drop)]
 pub enum Final {
     Query(u8, QueryMode, MemberKey),
     Set(u8, MemberKey),

@@ -10,7 +10,7 @@ use hack_values::{NoMemory, Seq};
 use std::alloc::Global;
 
 /// The class that a body is a method of, and its place there; a function's place is among the functions.
-#[derive(Clone, Copy, Debug)]
+#[derive(Clone, Copy)]
 pub(crate) struct Home {
     pub(crate) class: Option<u32>,
     pub(crate) place: u32,

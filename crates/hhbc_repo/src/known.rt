@@ -65,11 +65,9 @@ fn built_in_tables(alloc: Global, first: NameTable) -> Result<Seq<NameTable>, No
 {
     let mut all = Seq::new(alloc);
     all.push(first)?;
-    all.push(NameTable::new(alloc))?;
-    all.push(NameTable::new(alloc))?;
-    all.push(NameTable::new(alloc))?;
-    all.push(NameTable::new(alloc))?;
-    all.push(NameTable::new(alloc))?;
+    for _ in 0..5_usize {
+        all.push(NameTable::new(alloc))?;
+    }
     Ok(all)
 }
 
@@ -109,12 +107,9 @@ fn built_in_methods<'a>(alloc: Global) -> Result<Seq<BodyTable<'a>>, NoMemory>
     ensures { IfOk result (λ all. all ≡ [] ∷ [] ∷ [] ∷ [] ∷ [] ∷ [] ∷ []) }
 {
     let mut all = Seq::new(alloc);
-    all.push(BodyTable::new(alloc, &[])?)?;
-    all.push(BodyTable::new(alloc, &[])?)?;
-    all.push(BodyTable::new(alloc, &[])?)?;
-    all.push(BodyTable::new(alloc, &[])?)?;
-    all.push(BodyTable::new(alloc, &[])?)?;
-    all.push(BodyTable::new(alloc, &[])?)?;
+    for _ in 0..6_usize {
+        all.push(BodyTable::new(alloc, &[])?)?;
+    }
     Ok(all)
 }
 

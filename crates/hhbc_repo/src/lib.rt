@@ -13,7 +13,6 @@ mod first_numbers;
 mod fitting;
 mod homes;
 mod known;
-mod laws;
 mod link_bodies;
 mod link_classes;
 mod link_codes;
@@ -36,7 +35,6 @@ mod parts;
 mod regions;
 mod repo;
 mod scope;
-mod soundness;
 mod spelling;
 mod stack;
 mod telling;
@@ -46,10 +44,6 @@ pub use body::{Assert, Body, Position, Region};
 pub use code::{Arm, Base, Code, Final, Imm, Instr, MemberKey, MemberSeq};
 pub use code_facts::{code_may_throw, pops, reads_locals};
 pub use fitting::{linked_bodies_keep_to_ranges, spelled_parts_fit};
-pub use laws::{
-    bare_is_first_form, first_form_never_sticks, local_codes_never_stick, runs_as_bare,
-    second_form_never_sticks, types_where_asserted_walks, types_where_it_walks,
-};
 pub use link_fault::{LinkError, LinkFault, LinkKind};
 pub use linker::link;
 pub use linking_back::linked_parts_link_back;
@@ -58,6 +52,5 @@ pub use parts::{
     InstrParts, ItemParts, MemberKeyParts, MemberSeqParts, PositionParts, PropertyParts, TypeParts,
 };
 pub use repo::{Class, Const, Property, Repo};
-pub use soundness::{Analysed, facts_stay_true, rounds_stay_true, sample_is_true, tests_only_stop};
 pub use spelling::{claims_leave_a_spelling, fitting_parts_are_spelled};
 pub use whole_parts::Parts;

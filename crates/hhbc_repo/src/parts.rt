@@ -6,7 +6,7 @@ use type_lattice::HType;
 // A repository before linking. Locals stand without their dollar sign; locals, labels and classes are names.
 
 /// A function or a method, with the locals that it declares beside its parameters.
-#[derive(Debug, Drop)]
+#[derive(Drop)]
 pub struct BodyParts {
     pub name: Text,
     pub params: Seq<Text>,
@@ -17,7 +17,7 @@ pub struct BodyParts {
 }
 
 /// What stands in a body. `Try` opens a try body, `Catch` ends it and opens its catch body, and `End` ends that.
-#[derive(Debug, Drop)]
+#[derive(Drop)]
 pub enum ItemParts {
     Label(Text),
     Position(PositionParts),
@@ -27,42 +27,42 @@ pub enum ItemParts {
 }
 
 /// A code, and the assertions before it.
-#[derive(Debug, Drop)]
+#[derive(Drop)]
 pub struct PositionParts {
     pub asserts: Seq<AssertParts>,
     pub code: CodeParts,
 }
 
 /// The type of a local, or of the slot so far below the top of the stack.
-#[derive(Debug, Drop)]
+#[derive(Drop)]
 pub enum AssertParts {
     Local(Text, TypeParts),
     Stack(u8, TypeParts),
 }
 
 /// A type whose class numbers are places in a list of names, one for each class in its text.
-#[derive(Debug, Drop)]
+#[derive(Drop)]
 pub struct TypeParts {
     pub t: HType,
     pub classes: Seq<Text>,
 }
 
 /// A code.
-#[derive(Debug, Drop)]
+#[derive(Drop)]
 pub enum CodeParts {
     Plain(InstrParts),
     Member(MemberSeqParts),
 }
 
 /// An instruction and its operands, in order.
-#[derive(Debug, Drop)]
+#[derive(Drop)]
 pub struct InstrParts {
     pub op: Op,
     pub imms: Seq<ImmParts>,
 }
 
 /// An operand.
-#[derive(Debug, Drop)]
+#[derive(Drop)]
 pub enum ImmParts {
     Int(i64),
     Count(u16),
@@ -81,14 +81,14 @@ pub enum ImmParts {
 }
 
 /// An arm of a switch.
-#[derive(Debug, Drop)]
+#[derive(Drop)]
 pub struct ArmParts {
     pub text: Option<Text>,
     pub target: Text,
 }
 
 /// A member sequence.
-#[derive(Debug, Drop)]
+#[derive(Drop)]
 pub struct MemberSeqParts {
     pub base: BaseParts,
     pub dims: Seq<MemberKeyParts>,
@@ -96,7 +96,7 @@ pub struct MemberSeqParts {
 }
 
 /// Where a member sequence begins.
-#[derive(Debug, Drop)]
+#[derive(Drop)]
 pub enum BaseParts {
     Local(Text),
     Stack(u8),
@@ -104,7 +104,7 @@ pub enum BaseParts {
 }
 
 /// A key of a member sequence.
-#[derive(Debug, Drop)]
+#[derive(Drop)]
 pub enum MemberKeyParts {
     ElemStack(u8),
     ElemLocal(Text),
@@ -118,7 +118,7 @@ pub enum MemberKeyParts {
 }
 
 /// What a member sequence does at its last key.
-#[derive(Debug, Drop)]
+#[derive(Drop)]
 pub enum FinalParts {
     Query(u8, QueryMode, MemberKeyParts),
     Set(u8, MemberKeyParts),
@@ -128,7 +128,7 @@ pub enum FinalParts {
 }
 
 /// A class.
-#[derive(Debug, Drop)]
+#[derive(Drop)]
 pub struct ClassParts {
     pub name: Text,
     pub parent: Option<Text>,
@@ -138,7 +138,7 @@ pub struct ClassParts {
 }
 
 /// A property of a class.
-#[derive(Debug, Drop)]
+#[derive(Drop)]
 pub struct PropertyParts {
     pub name: Text,
     pub initial: Cell,

@@ -16,7 +16,7 @@ use std::marker::Model;
 use type_lattice::{ClassTree, HType};
 
 /// A class that the repository declares. Classes are numbered from 6, behind those that are built in.
-#[derive(Debug, Drop)]
+#[derive(Drop)]
 pub struct Class {
     pub name: Text,
     pub parent: Option<u32>,
@@ -26,14 +26,14 @@ pub struct Class {
 }
 
 /// A constant of a class.
-#[derive(Debug, Drop)]
+#[derive(Drop)]
 pub struct Const {
     pub name: Text,
     pub value: Cell,
 }
 
 /// A property of a class, with the value that it has in a new object.
-#[derive(Debug, Drop)]
+#[derive(Drop)]
 pub struct Property {
     pub name: Text,
     pub initial: Cell,

@@ -5,7 +5,7 @@ use crate::parts::{BodyParts, ClassParts};
 use hack_values::Seq;
 
 /// What a text spells: its functions and its classes, each in their order. They keep to the ranges of what texts spell.
-#[derive(Debug, Drop)]
+#[derive(Drop)]
 pub struct Parts {
     pub functions: Seq<BodyParts>,
     pub classes: Seq<ClassParts>,

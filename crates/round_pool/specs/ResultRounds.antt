@@ -2,7 +2,7 @@
 use Rattle.std.specs.Prelude.{◌≡◌, ℕ, Bool, false, List, length}
 use Rattle.hhbc_repo.specs.Linked.{Linked}
 use Rattle.hhbc_repo.specs.Bodies.{bodies}
-use Rattle.hhbc_repo.specs.Truth.{Facts}
+use Rattle.hhbc_semantics.specs.Truth.{Facts}
 use Rattle.func_analyze.specs.Dependencies.{Dependency, dependencies, AreSame}
 use Rattle.func_analyze.specs.Results.{BodyResult, IsResult, AreJoinedTo}
 use Rattle.func_analyze.specs.Rounds.{IsFacts, top}

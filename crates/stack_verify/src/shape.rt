@@ -5,7 +5,7 @@ use hhbc_ops::Flavour;
 use hhbc_repo::Repo;
 
 /// What the stack looks like before a position, and which iterators are live there.
-#[derive(Debug, Drop)]
+#[derive(Drop)]
 pub struct Shape {
     /// The flavours of its slots, the topmost first.
     pub slots: Seq<Flavour>,
@@ -70,7 +70,7 @@ impl From<NoMemory> for RepoStop {
 }
 
 /// Why a walk over a body stops.
-#[derive(Clone, Copy, Debug)]
+#[derive(Clone, Copy)]
 pub(crate) enum Stop {
     Fails(ShapeKind),
     NoMemory,

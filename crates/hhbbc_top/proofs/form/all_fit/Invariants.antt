@@ -1,5 +1,5 @@
 use Rattle.std.proofs.Common.{◌↔◌, drop}
-use Rattle.hhbc_repo.specs.Form.{FitAsserts}
+use Rattle.hhbc_semantics.specs.Form.{FitAsserts}
 use Rattle.hhbbc_top.proofs.form.all_fit.Given as goal
 
 abbrev pub invariant-loop-assert : goal.invariant-loop-assert

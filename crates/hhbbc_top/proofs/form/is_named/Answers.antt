@@ -1,5 +1,5 @@
 use Rattle.std.proofs.Common.{refl}
-use Rattle.hhbc_repo.specs.PlainTypes as types
+use Rattle.hhbc_semantics.specs.PlainTypes as types
 use Rattle.hhbbc_top.proofs.Fitting.{only-str}
 use Rattle.hhbbc_top.proofs.form.is_named.Goals as goal
 

@@ -1,7 +1,7 @@
 use Rattle.std.proofs.Common.{◌≡◌, ℕ, suc, ◌+◌, ◌<◌, ◌++◌, ◌∷◌, [], true, false, drop, take, get_or, is_some, length, add-one, drop-cons, ap, refl, subst, sym, ◌∙◌, List}
 use Rattle.std.proofs.Math.Seq.{take-suc}
 use Rattle.std.proofs.lemmas.List.{take-append-drop}
-use Rattle.hhbc_repo.specs.Form.{AllDiffer}
+use Rattle.hhbc_semantics.specs.Form.{AllDiffer}
 use Rattle.hhbc_repo.specs.LinkFaults.{place_in}
 use Rattle.hhbbc_top.proofs.Fitting.{differ-push, fresh-there, not-new}
 use Rattle.hhbbc_top.proofs.form.locals_of.Goals as goal

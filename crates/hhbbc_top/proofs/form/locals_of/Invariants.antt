@@ -1,5 +1,5 @@
 use Rattle.std.proofs.Common.{◌≡◌, take}
-use Rattle.hhbc_repo.specs.Form.{AllDiffer}
+use Rattle.hhbc_semantics.specs.Form.{AllDiffer}
 use Rattle.hhbbc_top.proofs.form.locals_of.Given as goal
 
 abbrev pub invariant-loop-name : goal.invariant-loop-name

@@ -1,5 +1,5 @@
 use Rattle.std.proofs.Common.{◌∙◌, sym, reverse}
-use Rattle.hhbc_repo.specs.Run.{no_world}
+use Rattle.hhbc_semantics.specs.Run.{no_world}
 use Rattle.hhbbc_top.proofs.Machines.{returned-top}
 use Rattle.hhbbc_top.proofs.machine.perform.Goals as goal
 

@@ -1,7 +1,7 @@
 use Rattle.std.proofs.Common.{suc, add-one, ◌∙◌, ap, sym, reverse, map, List}
 use Rattle.hack_values.specs.declared.cell.Slot.{Slot}
-use Rattle.hhbc_repo.specs.Machine as machines
-use Rattle.hhbc_repo.specs.Run.{no_world}
+use Rattle.hhbc_semantics.specs.Machine as machines
+use Rattle.hhbc_semantics.specs.Run.{no_world}
 use Rattle.hhbbc_top.specs.Running.{frame_of, slot_of}
 use Rattle.hhbbc_top.proofs.Machines.{set-top, set-slot}
 use Rattle.hhbbc_top.proofs.machine.set_local.Goals as goal

@@ -1,6 +1,6 @@
 use Rattle.std.proofs.Common.{◌≡◌, [], drop}
 use Rattle.hhbc_repo.specs.Bodies.{built_in_tree}
-use Rattle.hhbc_repo.specs.Run as runs
+use Rattle.hhbc_semantics.specs.Run as runs
 use Rattle.hhbbc_top.specs.Running.{frame_of}
 use Rattle.hhbbc_top.proofs.machine.test.Given as goal
 

@@ -1,5 +1,0 @@
-use Rattle.hhbc_repo.proofs.Stripped.{bare_is_first_form}
-use Rattle.hhbc_repo.proofs.laws.bare_is_first_form.Goals as goal
-
-pub returns : goal.returns
-returns c = bare_is_first_form

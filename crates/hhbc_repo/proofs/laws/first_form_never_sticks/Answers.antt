@@ -1,5 +1,0 @@
-use Rattle.hhbc_repo.proofs.LocalCodes.{first_form_never_sticks}
-use Rattle.hhbc_repo.proofs.laws.first_form_never_sticks.Goals as goal
-
-pub returns : goal.returns
-returns c = first_form_never_sticks

@@ -1,5 +1,0 @@
-use Rattle.hhbc_repo.proofs.LocalCodes.{second_form_never_sticks}
-use Rattle.hhbc_repo.proofs.laws.second_form_never_sticks.Goals as goal
-
-pub returns : goal.returns
-returns c = second_form_never_sticks

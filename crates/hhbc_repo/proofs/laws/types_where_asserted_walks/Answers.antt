@@ -1,5 +1,0 @@
-use Rattle.hhbc_repo.proofs.Walking.{types_where_asserted_walks}
-use Rattle.hhbc_repo.proofs.laws.types_where_asserted_walks.Goals as goal
-
-pub returns : goal.returns
-returns c = types_where_asserted_walks

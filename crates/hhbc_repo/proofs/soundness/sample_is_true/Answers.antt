@@ -1,5 +1,0 @@
-use Rattle.hhbc_repo.proofs.SampleTrue.{sample_is_true}
-use Rattle.hhbc_repo.proofs.soundness.sample_is_true.Goals as goal
-
-pub returns : goal.returns
-returns c = sample_is_true

@@ -1,5 +1,0 @@
-use Rattle.hhbc_repo.proofs.TestedRuns.{tests_only_stop}
-use Rattle.hhbc_repo.proofs.soundness.tests_only_stop.Goals as goal
-
-pub returns : goal.returns
-returns c = tests_only_stop

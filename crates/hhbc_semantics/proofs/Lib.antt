@@ -1,0 +1,12 @@
+pub mod FirstForm
+pub mod Growing
+pub mod LocalCodes
+mod SampleExamples
+pub mod SampleTrue
+pub mod ShapeLaws
+pub mod ShapeTables
+pub mod Starting
+pub mod StaysTrue
+pub mod Stripped
+pub mod TestedRuns
+pub mod Walking

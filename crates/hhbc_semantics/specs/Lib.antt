@@ -1,0 +1,13 @@
+pub mod Form
+pub mod Growth
+pub mod Machine
+pub mod Outcome
+pub mod PlainTypes
+pub mod Run
+pub mod Sample
+pub mod ShapeAnalysis
+pub mod Soundness
+pub mod Steps
+pub mod Tested
+pub mod Truth
+pub mod Walks

@@ -1,0 +1,105 @@
+-- Runs with a bound of steps. They go over the repository without its assertions, which may be tested before each step.
+use Rattle.std.specs.Prelude.{ℕ, zero, suc, ◌-◌, ◌==◌, nat_eq, Bool, true, false, List, [], ◌∷◌, ◌++◌, map, Option, Some, None, slice_get, length, replicate, if◌then◌else◌}
+use Rattle.std.specs.Cmp.Lexicographic.{pointwise}
+use Rattle.hack_values.specs.declared.cell.Cell.{Cell}
+use Rattle.hack_values.specs.declared.cell.Slot.{Slot}
+use Rattle.hack_values.specs.declared.cell.Slot.TheVariants as slots
+use Rattle.type_lattice.specs.declared.types.HType.{HType}
+use Rattle.type_lattice.specs.Classes.{Tree}
+use Rattle.type_lattice.specs.Member.{Heap, is_member}
+use Rattle.hhbc_repo.specs.declared.body.Body.{Body}
+use Rattle.hhbc_repo.specs.declared.body.Assert.{Assert}
+use Rattle.hhbc_repo.specs.declared.body.Assert.TheVariants as asserts
+use Rattle.hhbc_repo.specs.Linked.{Linked}
+use Rattle.hhbc_repo.specs.Bodies.{tree_of, body_at, asserts_at}
+use Rattle.hhbc_repo.specs.Bare.{bare}
+use Rattle.hhbc_semantics.specs.Outcome.{Outcome, AssertFalse, Steps, Stuck, UnknownEntry, WrongCount, Underflow}
+use Rattle.hhbc_semantics.specs.Machine.{World, Frame}
+use Rattle.hhbc_semantics.specs.Steps.{Config, Running, Ended, place_of, next}
+
+-- whether the slot is of the type, where there is a slot
+abbrev pub slot_in : Tree → Heap → Option Slot → HType → Option Bool
+slot_in tree heap None t = None
+slot_in tree heap (Some s) t = Some (is_member tree heap s t)
+
+abbrev pub holds : Tree → Heap → Frame → Assert → Option Bool
+holds tree heap f (asserts.Local l t) = slot_in tree heap (slice_get f.locals l) t
+holds tree heap f (asserts.Stack i t) = slot_in tree heap (slice_get f.stack i) t
+
+abbrev pub and_then : Option Bool → Option Bool → Option Bool
+and_then None more = None
+and_then (Some false) more = Some false
+and_then (Some true) more = more
+
+-- the assertions in order: whether all hold, or nothing where one that is come to reaches below the stack
+abbrev pub test : Tree → Heap → Frame → List Assert → Option Bool
+test tree heap f [] = Some true
+test tree heap f (a ∷ more) = and_then (holds tree heap f a) (test tree heap f more)
+
+abbrev pub asserts_in : Option Body → ℕ → List Assert
+asserts_in None p = []
+asserts_in (Some b) p = asserts_at b p
+
+-- the assertions of the frame's position
+abbrev pub asserts_of : Linked → Frame → List Assert
+asserts_of r f = asserts_in (body_at r f.body) f.position
+
+abbrev pub tested : Option Bool → Frame → World → Config → Config
+tested None f w step = Ended (Stuck Underflow) w
+tested (Some false) f w step = Ended (AssertFalse (place_of f)) w
+tested (Some true) f w step = step
+
+-- one turn: the assertions of the position, if they are tested, and then one step
+abbrev pub advance : Linked → Bool → Config → Config
+advance r true (Running f fs w) =
+    tested (test (tree_of r) w.heap f (asserts_of r f)) f w (next (bare r) (Running f fs w))
+advance r false (Running f fs w) = next (bare r) (Running f fs w)
+advance r asserted (Ended o w) = Ended o w
+
+-- after so many turns
+abbrev pub after : Linked → Bool → Config → ℕ → Config
+after r asserted c zero = c
+after r asserted c (suc n) = advance r asserted (after r asserted c n)
+
+-- the first function of the name, from this number on
+abbrev pub function_from : ℕ → List Body → List ℕ → Option (ℕ × Body)
+function_from n [] name = None
+function_from n (b ∷ bs) name = if pointwise nat_eq b.name name then Some (n, b) else function_from (suc n) bs name
+
+abbrev pub no_world : World
+no_world = record { heap = []; output = [] }
+
+-- a frame that enters a body: parameters set, other locals Uninit, no iterator live
+abbrev pub entered : ℕ → Body → List Cell → Frame
+entered n b args = record {
+  body = n;
+  position = 0;
+  locals = map (λ c. slots.Cell c) args ++ replicate (length b.locals - b.params) slots.Uninit;
+  stack = [];
+  iters = replicate b.iters None;
+  this = None;
+}
+
+abbrev pub start_in : Option (ℕ × Body) → List Cell → Config
+start_in None args = Ended UnknownEntry no_world
+start_in (Some e) args = if length args == e.1.params then Running (entered e.0 e.1 args) [] no_world else Ended WrongCount no_world
+
+abbrev pub start : Linked → List ℕ → List Cell → Config
+start r entry args = start_in (function_from 0 r.functions entry) args
+
+-- the state of a run of this entry after so many turns
+abbrev pub state_after : Linked → List ℕ → List Cell → Bool → ℕ → Config
+state_after r entry args asserted n = after r asserted (start r entry args) n
+
+-- how a run ends, and what it wrote
+pub record Result : Type 0 where
+  pub outcome : Outcome
+  pub output : List ℕ
+
+abbrev pub result_of : Config → Result
+result_of (Running f fs w) = record { outcome = Steps; output = w.output }
+result_of (Ended o w) = record { outcome = o; output = w.output }
+
+-- a run of the function of this name, of at most n steps
+abbrev pub run : Linked → List ℕ → List Cell → ℕ → Bool → Result
+run r entry args n asserted = result_of (state_after r entry args asserted n)

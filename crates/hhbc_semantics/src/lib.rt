@@ -1,0 +1,11 @@
+//! What repositories do: the machine, its runs, and what stays true of them. Definitions and laws alone.
+#![tactic(auto)]
+
+mod laws;
+mod soundness;
+
+pub use laws::{
+    bare_is_first_form, first_form_never_sticks, local_codes_never_stick, runs_as_bare,
+    second_form_never_sticks, types_where_asserted_walks, types_where_it_walks,
+};
+pub use soundness::{Analysed, facts_stay_true, rounds_stay_true, sample_is_true, tests_only_stop};
