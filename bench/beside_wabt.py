@@ -7,7 +7,7 @@ import shutil
 import sys
 import tempfile
 
-from measuring import PROGRAM, build, measured
+from measuring import PROGRAM, measured, refuse_stale
 
 FUNCTIONS = 16_000
 PAIRS = 29
@@ -39,7 +39,7 @@ def parts_of(begin, function, pair, extra, end):
 
 
 def main():
-    build()
+    refuse_stale()
     with tempfile.TemporaryDirectory() as folder:
         text, module, binary = (os.path.join(folder, name) for name in ("text.hhas", "module.wat", "module.wasm"))
         for path, language in ((text, HHAS), (module, WAT)):

@@ -10,7 +10,7 @@ import os
 import sys
 import tempfile
 
-from measuring import PROGRAM, TOP, build, measured
+from measuring import PROGRAM, TOP, measured, refuse_stale
 
 LIMIT = 16_777_216
 RUN_LIMIT = 134_217_728
@@ -29,7 +29,7 @@ def filled(file, begin, size, end=b""):
 def main():
     with open(os.path.join(TOP, "examples", "first.hhas"), "rb") as example:
         text = example.read()
-    build()
+    refuse_stale()
     print(f"{'case':<12}{'bytes':>11}  {'run':<8}{'seconds':>9}{'MiB':>8}")
     for name, command, begin, size, end, wanted in [
         ("annotated", "analyze", text, LIMIT // 4, b"", 0),

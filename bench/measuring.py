@@ -2,15 +2,18 @@
 
 import os
 import subprocess
+import sys
 import time
 
 TOP = os.path.dirname(os.path.dirname(os.path.abspath(__file__)))
-PROGRAM = os.path.join(TOP, "hhbbc")
+PROGRAM = os.path.join(TOP, "crates", "hhbbc_top", "out", "hhbbc_top")
 
 
-def build():
-    """Runs the program once, which proves and builds it where that wasn't done."""
-    subprocess.run([PROGRAM], stdin=subprocess.DEVNULL, stderr=subprocess.DEVNULL, check=False)
+def refuse_stale():
+    """Ends the bench where the program isn't built, or a source is newer than it. A line says which."""
+    status = subprocess.run([os.path.join(TOP, "tools", "fresh")], check=False).returncode
+    if status != 0:
+        sys.exit(status)
 
 
 def measured(words, path=os.devnull):

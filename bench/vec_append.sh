@@ -1,6 +1,6 @@
 #!/bin/sh
 # Times how long it takes to build vecs of 10,000, 100,000 and 1,000,000 ints by `append`, in a scratch folder over
-# a copy of the crate of values. The program is only run, not proved.
+# a copy of the crate of values. The sources are run as they are, unproved, so there is no program that could be stale.
 set -e
 top=$(CDPATH= cd -- "$(dirname -- "$0")/.." && pwd)
 scratch=$(mktemp -d)

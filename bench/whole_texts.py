@@ -9,7 +9,7 @@ import os
 import sys
 import tempfile
 
-from measuring import PROGRAM, build, measured
+from measuring import PROGRAM, measured, refuse_stale
 
 MIB = 1 << 20
 BEGIN = b".profile 1;\n"
@@ -72,7 +72,7 @@ def cases():
 
 
 def main():
-    build()
+    refuse_stale()
     print(f"{'text':<20}{'command':<9}{'bytes':>12}{'seconds':>9}{'MiB':>9}  says")
     for name, command, parts, wanted in cases():
         with tempfile.NamedTemporaryFile() as file:

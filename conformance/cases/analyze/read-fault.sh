@@ -1,0 +1,2 @@
+# Standard input is a folder, so the first read fails.
+"$1" analyze </

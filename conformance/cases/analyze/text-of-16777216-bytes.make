@@ -1,0 +1,3 @@
+. ../../pieces
+printf '.profile 1;.function main(){Null RetC}'
+bytes 16777178 ' '

@@ -1,0 +1,3 @@
+. ../../pieces
+printf '%s' '.profile 1;'
+bytes 16777206 ' '

@@ -1,0 +1,6 @@
+. ../../pieces
+printf '%s' '.profile 1;.function main(){.declvars $q'
+numbered 1 254 ',$v' ''
+printf '%s' ';'
+copies 3904 'Nop '
+printf '%s' 'Null RetC}'

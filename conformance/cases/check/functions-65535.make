@@ -1,0 +1,3 @@
+. ../../pieces
+printf '%s' '.profile 1;'
+numbered 0 65534 '.function f' '(){Null RetC}'

@@ -1,0 +1,4 @@
+. ../../pieces
+printf '%s' '.profile 1;'
+numbered 0 65535 '.function f' '(){}'
+numbered 0 16384 '.class C' '{}'

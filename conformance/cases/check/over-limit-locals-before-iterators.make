@@ -1,0 +1,4 @@
+. ../../pieces
+printf '%s' '.profile 1;.function main($p'
+numbered 1 255 ',$p' ''
+printf '%s' '){.numiters 33;Null RetC}'

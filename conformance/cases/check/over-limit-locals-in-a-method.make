@@ -1,0 +1,4 @@
+. ../../pieces
+printf '%s' '.profile 1;.class A{.method m($p'
+numbered 1 299 ',$p' ''
+printf '%s' '){Null RetC}}'

@@ -1,0 +1,4 @@
+. ../../pieces
+printf '%s' '.profile 1;.class A{'
+numbered 0 65535 '.method m' '(){}'
+printf '%s' '}'

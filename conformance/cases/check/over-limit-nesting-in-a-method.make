@@ -1,0 +1,4 @@
+. ../../pieces
+printf '%s' '.profile 1;.class A{.method m(){'
+nested 66 'Nop'
+printf '%s' '}}'

@@ -1,0 +1,4 @@
+. ../../pieces
+printf '%s' '.profile 1;.class A{.method m(){'
+copies 70000 'Nop '
+printf '%s' '}}'

@@ -1,0 +1,4 @@
+. ../../pieces
+printf '%s' '.profile 1;.function main(){True JmpZ L '
+copies 256 'Null '
+printf '%s' 'L: Null RetC}'

@@ -1,0 +1,4 @@
+. ../../pieces
+printf '.profile 1;.function f(){String "'
+escapes 1048577
+printf '" RetC}'

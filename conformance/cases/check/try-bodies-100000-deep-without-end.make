@@ -1,0 +1,3 @@
+. ../../pieces
+printf '.profile 1;.function f(){'
+copies 100000 '.try{'

@@ -1,0 +1,2 @@
+# The file is no file.
+sh ../../../tools/where nowhere.hhas 0

@@ -1,0 +1,2 @@
+# Standard error takes no byte.
+"$1" 2>/dev/full
