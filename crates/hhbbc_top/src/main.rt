@@ -10,8 +10,6 @@ mod form;
 mod machine;
 mod report;
 mod status;
-#[cfg(test)]
-mod tests;
 mod top;
 mod words;
 

@@ -1,5 +1,5 @@
 -- The numbers of what classes declare, by the number of each class's first.
-use Rattle.std.proofs.Common.{◌≡◌, ◌<◌, ◌≤◌, ◌^◌, ℕ, zero, suc, ◌+◌, List, [], ◌∷◌, ◌++◌, refl, ap, sym, ◌∙◌, Option, Some, slice_get, map, length, arith, subst, option_map, replicate, true, append_assoc}
+use Rattle.std.proofs.Common.{◌≡◌, ◌<◌, ◌≤◌, ◌^◌, ℕ, zero, suc, ◌+◌, List, [], ◌∷◌, ◌++◌, refl, ap, sym, ◌∙◌, Option, Some, slice_get, map, length, arith, subst, option_map, true, append_assoc}
 use Rattle.std.proofs.lemmas.Bool.{and_parts}
 use Rattle.std.proofs.lemmas.Option.{slice_get-map}
 use Rattle.std.proofs.lemmas.List.{map-append}
@@ -85,10 +85,6 @@ found first table d p here name h k = ap (λ (o : Option (List (List ℕ))). num
 pub own-found : (s next : ℕ) (rows : List Row) (d p : ℕ) (row : Row) (name : List ℕ) → Counted s next rows → slice_get rows d ≡ Some row → place_in row.names name ≡ Some p
     → own_number s (names_of rows) name d ≡ Some (row.first + p)
 own-found s next rows d p row name c h k = found s (names_of rows) d p row.names name (row-names rows d row h) k ∙ own-get s rows d p row c.firsts h (place_inside row.names name p k)
-
-pub replicate_more : (n : ℕ) → replicate {A = List (List ℕ)} n [] ++ [] ∷ [] ≡ replicate (n + 1) []
-replicate_more zero = refl
-replicate_more (suc n) = let e : suc n + 1 ≡ suc (n + 1) = omega arith in rw e (ap (λ l. [] ∷ l) (replicate_more n))
 
 -- a further class's names, where names are listed by class and those of the classes left are behind them
 pub record Listed (f : Class → List (List ℕ)) (first : ℕ) (all here : List (List (List ℕ))) (left : List Class) : Type 0 where

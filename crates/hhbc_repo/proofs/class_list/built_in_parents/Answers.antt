@@ -1,7 +1,0 @@
-use Rattle.std.proofs.Common.{arith}
-use Rattle.std.proofs.lemmas.Grind.{common_steps}
-use Rattle.hhbc_repo.proofs.Numbered.{replicate_more}
-use Rattle.hhbc_repo.proofs.class_list.built_in_parents.Goals as goal
-
-pub loop-preserved : goal.loop-preserved
-loop-preserved c = grind (arith, common_steps, replicate_more c.loop.counter)
