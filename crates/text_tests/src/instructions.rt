@@ -257,26 +257,26 @@ fn words_of_operands(rt: HostRuntime) -> Result<(), Fail> {
         "SrEqual",
     ];
     for word in set_ops {
-        assert_eq!(rt; set_op_named(word.as_bytes()).map(set_op_name), Some(word));
+        assert_eq!(rt; set_op_named(word.as_bytes()).map(|found| set_op_name(found)), Some(word));
     }
     let inc_decs: [&'static str; 4] = ["PreInc", "PostInc", "PreDec", "PostDec"];
     for word in inc_decs {
         assert_eq!(rt;
-            inc_dec_named(word.as_bytes()).map(inc_dec_name),
+            inc_dec_named(word.as_bytes()).map(|found| inc_dec_name(found)),
             Some(word)
         );
     }
     let modes: [&'static str; 3] = ["CGet", "CGetQuiet", "Isset"];
     for word in modes {
         assert_eq!(rt;
-            query_mode_named(word.as_bytes()).map(query_mode_name),
+            query_mode_named(word.as_bytes()).map(|found| query_mode_name(found)),
             Some(word)
         );
     }
     let kinds: [&'static str; 8] = ["Null", "Bool", "Int", "Str", "Vec", "Dict", "Keyset", "Obj"];
     for word in kinds {
         assert_eq!(rt;
-            is_type_named(word.as_bytes()).map(is_type_name),
+            is_type_named(word.as_bytes()).map(|found| is_type_name(found)),
             Some(word)
         );
     }
