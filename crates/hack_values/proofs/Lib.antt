@@ -3,3 +3,4 @@ pub mod Rows
 pub mod Digits
 pub mod SameLaws
 pub mod Listing
+pub mod Knowns

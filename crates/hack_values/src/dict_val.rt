@@ -1,16 +1,16 @@
-ghost use Rattle.std.specs.Prelude.{◌≡◌, ◌<◌, ◌↔◌, ◌++◌, [], ◌∷◌, length, IsTrue, IsSome, IfSome, OnOk, OnErr, Some, None, Err, true, slice_get};
+ghost use Rattle.std.specs.Prelude.{◌≡◌, ◌+◌, ◌<◌, ◌↔◌, ◌++◌, [], ◌∷◌, length, IsTrue, IsSome, IfSome, OnOk, OnErr, Some, None, Err, true, slice_get};
 ghost use Rattle.std.specs.Borrow.{sem, LendsIf};
 ghost use Rattle.std.specs.Map.{keys_of, values_of};
 ghost use Rattle.hack_values.specs.contracts.cell.Cell.{the_row as cell_row};
 ghost use Rattle.hack_values.specs.contracts.cell.DictVal.{the_row as dict_row};
-ghost use Rattle.hack_values.specs.Keys.{has_key, place, put_entry, remove_entry, set_value};
+ghost use Rattle.hack_values.specs.Keys.{capped, has_key, place, put_entry, remove_entry, set_value};
 ghost use Rattle.hack_values.specs.Limits.{IsTooLarge, IsTooDeep};
-ghost use Rattle.hack_values.specs.Val.{from_pairs};
+ghost use Rattle.hack_values.specs.Val.{from_pairs, entry_weights, entry_depths};
 ghost use Rattle.hack_values.specs.Val.Val.{dict};
 ghost use Rattle.hack_values.specs.View.{val_of, item_of};
 
 use crate::cell::Known;
-use crate::key::place_of;
+use crate::key::{place_of, push_key};
 use crate::value_fault::{MAX_DEPTH, MAX_WEIGHT};
 use crate::{Cell, DictVal, Key, ValueFault};
 use std::mem;
@@ -22,20 +22,21 @@ impl DictVal {
         ensures variant { IsSome result ↔ (at < length self.now) }
         ensures value { IfSome result (λ e. slice_get self.now at ≡ Some (e.0.now, val_of e.1.now)) }
     {
-        if at < self.keys.len() {
-            Some((&self.keys[at], &self.vals[at]))
+        let keys = self.keys.as_slice();
+        if at < keys.len() {
+            Some((&keys[at], &self.vals[at]))
         } else {
             None
         }
     }
 
-    /// Where the key stands; None where it isn't there. Walks over the keys.
+    /// Where the key stands; None where it isn't there.
     #[tactic(auto, using(crate::proofs::Rows::entries, crate::proofs::KeyLaws::places))]
     pub fn find(&self, key: &Key) -> Option<usize>
         ensures place { result ≡ place key.now (keys_of self.now) }
         ensures there { IsSome result ↔ (has_key key.now (keys_of self.now) ≡ true) }
     {
-        place_of(self.keys.as_slice(), key)
+        place_of(&self.keys, key)
     }
 
     /// The value at a place, for writing; None where the place isn't below the length.
@@ -49,6 +50,18 @@ impl DictVal {
         self.vals.get_mut(at)
     }
 
+    /// Keeps its weight and depth, as after a write through `value_mut` of which they are known.
+    pub fn know(&mut self, weight: u32, depth: u32)
+        requires { (weight ≡ capped (1 + entry_weights self.old)) × (depth ≡ capped (1 + entry_depths self.old)) }
+        ensures { self.new ≡ self.old }
+    {
+        self.known = Some(Known {
+            weight,
+            depth,
+            but: None,
+        });
+    }
+
     /// Takes the key out and closes up; false where it isn't there.
     #[tactic(auto, using(crate::proofs::Rows::entries, crate::proofs::Rows::entry_remove, crate::proofs::KeyLaws::removes))]
     pub fn remove(&mut self, key: &Key) -> bool
@@ -58,8 +71,8 @@ impl DictVal {
         match self.find(key) {
             Some(at) => {
                 self.known = None;
-                let _ = self.keys.remove(at);
                 let _ = self.vals.remove(at);
+                let _ = self.keys.shift_remove_index(at);
                 true
             }
             None => false,
@@ -100,7 +113,11 @@ impl DictVal {
             self.vals[at] = old;
             return Err(ValueFault::TooDeep);
         }
-        self.known = Some(Known { weight, depth });
+        self.known = Some(Known {
+            weight,
+            depth,
+            but: None,
+        });
         Ok(())
     }
 
@@ -123,12 +140,16 @@ impl DictVal {
         if depth > MAX_DEPTH {
             return Err(ValueFault::TooDeep);
         }
-        self.keys.push(key)?;
+        push_key(&mut self.keys, key)?;
         let Ok(()) = self.vals.push(value) else {
             self.keys.pop();
             return Err(ValueFault::NoMemory);
         };
-        self.known = Some(Known { weight, depth });
+        self.known = Some(Known {
+            weight,
+            depth,
+            but: None,
+        });
         Ok(())
     }
 }

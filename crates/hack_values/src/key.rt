@@ -1,11 +1,12 @@
-ghost use Rattle.std.specs.Prelude.{◌≡◌, ◌+◌, ◌↔◌, length, IfOk, IsTrue};
+ghost use Rattle.std.specs.Prelude.{◌≡◌, ◌+◌, ◌↔◌, ◌++◌, [], ◌∷◌, length, IfOk, OnOk, OnErr, IsTrue, None};
 ghost use Rattle.hack_values.specs.Keys.{key_eq, key_weight, keys_weight, capped, place};
 
 use crate::{NoMemory, Text};
-use std::alloc::Global;
+use indexmap::IndexSet;
+use std::alloc::{AllocError, Global};
 
 /// A key of a dict, or an element of a keyset.
-#[derive(Debug, Drop)]
+#[derive(Debug, Drop, PartialEq, Eq, Hash)]
 pub enum Key {
     Int(i64),
     Str(Text),
@@ -29,6 +30,17 @@ impl Key {
         match self {
             Key::Int(_) => 1,
             Key::Str(text) => text_weight(text),
+        }
+    }
+}
+
+impl Clone for Key {
+    ghost is_clone = { λ k copy. copy ≡ k };
+
+    fn clone(&self) -> Result<Key, AllocError> {
+        match self {
+            Key::Int(number) => Ok(Key::Int(*number)),
+            Key::Str(text) => Ok(Key::Str(text.clone()?)),
         }
     }
 }
@@ -63,22 +75,28 @@ pub(crate) fn same_key(a: &Key, b: &Key) -> bool
     }
 }
 
-/// Where the key stands first. Walks over the keys.
-#[tactic(auto, using(crate::proofs::KeyLaws::keys))]
-pub(crate) fn place_of(keys: &[Key], key: &Key) -> Option<usize>
-    ensures { result ≡ place key.now keys.now }
+/// Where the key stands.
+pub(crate) fn place_of(keys: &IndexSet<Key>, key: &Key) -> Option<usize>
+    ensures { result ≡ place key.now keys.now.keys }
 {
-    keys.iter().position(|other| same_key(key, other))
+    keys.get_index_of(key)
 }
 
-pub(crate) fn copy_keys(alloc: Global, keys: &[Key]) -> Result<Vec<Key>, NoMemory>
-    ensures { IfOk result (λ copies. copies.items ≡ keys.now) }
+#[tactic(auto, using(std::proofs::lemmas::Grind::elements))]
+pub(crate) fn copy_keys(keys: &IndexSet<Key>) -> Result<IndexSet<Key>, NoMemory>
+    ensures { IfOk result (λ copies. copies.keys ≡ keys.now.keys) }
 {
-    let mut copies = Vec::new(alloc);
-    for key in keys {
-        copies.push(key.copy(alloc)?)?;
-    }
-    Ok(copies)
+    Ok(keys.clone()?)
+}
+
+/// Adds a key that isn't there.
+pub(crate) fn push_key(keys: &mut IndexSet<Key>, key: Key) -> Result<(), NoMemory>
+    requires { place key keys.old.keys ≡ None }
+    ensures ok { OnOk result (keys.new.keys ≡ keys.old.keys ++ key ∷ []) }
+    ensures err { OnErr result (keys.new.keys ≡ keys.old.keys) }
+{
+    keys.insert(key)?;
+    Ok(())
 }
 
 /// `from` and what the keys add to it.

@@ -19,7 +19,7 @@ impl Cell {
             Cell::Str(text) => text_weight(text),
             Cell::Vec(cells) => cells.weight(),
             Cell::Dict(entries) => entries.weight(),
-            Cell::Keyset(keys) => keys_weight_of(keys.keys(), 1),
+            Cell::Keyset(keys) => keys.weight(),
         }
     }
 
@@ -41,11 +41,17 @@ impl Cell {
 impl VecVal {
     /// The weight as a cell.
     #[cycle(weight)]
-    pub(crate) fn weight(&self) -> u32
+    pub fn weight(&self) -> u32
         ensures { result ≡ capped (1 + weights self.now) }
     {
         if let Some(known) = self.known {
-            return known.weight;
+            return match known.but {
+                None => known.weight,
+                Some(at) if at < self.items.len() => {
+                    known.weight.saturating_add(self.items[at].weight())
+                }
+                Some(_) => known.weight,
+            };
         }
         let mut sum = 1u32;
         for cell in &self.items {
@@ -56,11 +62,17 @@ impl VecVal {
 
     /// The depth as a cell.
     #[cycle(depth)]
-    pub(crate) fn depth(&self) -> u32
+    pub fn depth(&self) -> u32
         ensures { result ≡ capped (1 + depths self.now) }
     {
         if let Some(known) = self.known {
-            return known.depth;
+            return match known.but {
+                None => known.depth,
+                Some(at) if at < self.items.len() => {
+                    known.depth.max(self.items[at].depth().saturating_add(1))
+                }
+                Some(_) => known.depth,
+            };
         }
         let mut most = 0u32;
         for cell in &self.items {
@@ -74,7 +86,7 @@ impl DictVal {
     /// The weight as a cell.
     #[cycle(weight)]
     #[tactic(auto, using(crate::proofs::Rows::entry_sums))]
-    pub(crate) fn weight(&self) -> u32
+    pub fn weight(&self) -> u32
         ensures { result ≡ capped (1 + entry_weights self.now) }
     {
         if let Some(known) = self.known {
@@ -90,7 +102,7 @@ impl DictVal {
     /// The depth as a cell.
     #[cycle(depth)]
     #[tactic(auto, using(crate::proofs::Rows::entry_sums))]
-    pub(crate) fn depth(&self) -> u32
+    pub fn depth(&self) -> u32
         ensures { result ≡ capped (1 + entry_depths self.now) }
     {
         if let Some(known) = self.known {

@@ -6,7 +6,7 @@ use Rattle.hack_values.proofs.cell.DictVal.value_mut.Goals as goal
 
 pub returns : goal.returns
 returns c = (
-  lent _ (λ w. set-entries c.self.inside.keys.items c.self.inside.vals.items c.args.at w ∙ ap (λ l. set_value l c.args.at (val_of w)) c.self.view_is) c.self.view_is,
+  lent _ (λ w. set-entries c.self.inside.keys.keys c.self.inside.vals.items c.args.at w ∙ ap (λ l. set_value l c.args.at (val_of w)) c.self.view_is) c.self.view_is,
   rw (← c.self.view_is)
-      (search (rules, length-entries c.self.inside.keys.items c.self.inside.vals.items c.self.invariant.0, values-entries c.self.inside.keys.items c.self.inside.vals.items c.self.invariant.0, length-vals, item-vals)),
+      (search (rules, length-entries c.self.inside.keys.keys c.self.inside.vals.items c.self.invariant.0, values-entries c.self.inside.keys.keys c.self.inside.vals.items c.self.invariant.0, length-vals, item-vals)),
 )
