@@ -4,6 +4,7 @@ ghost use Rattle.hack_values.specs.Keys.{distinct};
 ghost use Rattle.hack_values.specs.View.{cells_of};
 
 use crate::key::copy_keys;
+use crate::known::Known;
 use crate::{Key, KeysetVal, NoMemory, Text};
 use indexmap::IndexSet;
 use std::alloc::Global;
@@ -24,15 +25,6 @@ pub enum Cell {
     Dict(DictVal),
     Keyset(KeysetVal),
     Obj(u32),
-}
-
-/// Weight and depth of a container, as they are kept where they are known: without what stands at
-/// the place `but`, where there is one.
-#[derive(Clone, Copy, Debug)]
-pub(crate) struct Known {
-    pub(crate) weight: u32,
-    pub(crate) depth: u32,
-    pub(crate) but: Option<usize>,
 }
 
 /// A list of cells.
@@ -123,7 +115,7 @@ pub enum Slot {
 fn copy_cells(alloc: Global, cells: &[Cell]) -> Result<Vec<Cell>, NoMemory>
     ensures { IfOk result (λ copies. copies.items ≡ cells.now) }
 {
-    let mut copies = Vec::new(alloc);
+    let mut copies = Vec::with_capacity(alloc, cells.len())?;
     for cell in cells {
         copies.push(cell.copy(alloc)?)?;
     }
@@ -156,12 +148,17 @@ impl VecVal {
     {
         VecVal {
             items: Vec::new(alloc),
-            known: Some(Known {
-                weight: 1,
-                depth: 1,
-                but: None,
-            }),
+            known: Some(Known::empty()),
         }
+    }
+
+    /// How many cells it has.
+    #[tactic(auto, using(crate::proofs::Rows::elements))]
+    pub fn len(&self) -> usize
+        ensures count { result ≡ length self.now }
+        ensures small { length self.now < 2 ^ 63 }
+    {
+        self.items.len()
     }
 
     /// All its cells.
@@ -192,11 +189,7 @@ impl DictVal {
         DictVal {
             keys: IndexSet::new(alloc),
             vals: Vec::new(alloc),
-            known: Some(Known {
-                weight: 1,
-                depth: 1,
-                but: None,
-            }),
+            known: Some(Known::empty()),
         }
     }
 

@@ -1,4 +1,5 @@
-ghost use Rattle.std.specs.Prelude.{◌≡◌, ◌+◌, ◌↔◌, ◌++◌, [], ◌∷◌, length, IfOk, OnOk, OnErr, IsTrue, None};
+ghost use Rattle.std.specs.Prelude.{◌≡◌, ◌+◌, ◌↔◌, ◌++◌, [], ◌∷◌, length, IfOk, OnOk, OnErr, IsTrue, IfNone, None, slice_get};
+ghost use Rattle.std.specs.List.{remove};
 ghost use Rattle.hack_values.specs.Keys.{key_eq, key_weight, keys_weight, capped, place};
 
 use crate::{NoMemory, Text};
@@ -24,7 +25,7 @@ impl Key {
     }
 
     /// What the key adds to a container's weight.
-    pub(crate) fn weight(&self) -> u32
+    pub fn weight(&self) -> u32
         ensures { result ≡ capped (key_weight self.now) }
     {
         match self {
@@ -87,6 +88,15 @@ pub(crate) fn copy_keys(keys: &IndexSet<Key>) -> Result<IndexSet<Key>, NoMemory>
     ensures { IfOk result (λ copies. copies.keys ≡ keys.now.keys) }
 {
     Ok(keys.clone()?)
+}
+
+/// Takes out the key at a place; those behind it close up.
+pub(crate) fn take_key(keys: &mut IndexSet<Key>, at: usize) -> Option<Key>
+    ensures taken { result ≡ slice_get keys.old.keys at }
+    ensures rest { keys.new.keys ≡ remove keys.old.keys at }
+    ensures unchanged { IfNone result (keys.new.keys ≡ keys.old.keys) }
+{
+    keys.shift_remove_index(at)
 }
 
 /// Adds a key that isn't there.

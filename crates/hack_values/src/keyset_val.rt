@@ -1,12 +1,14 @@
 ghost use Rattle.std.specs.Prelude.{◌≡◌, ◌+◌, [], ◌<◌, ◌^◌, ◌↔◌, length, IfOk, OnOk, OnErr, IsTrue, IsSome, IfSome, Some, Err, true, slice_get};
-ghost use Rattle.hack_values.specs.Keys.{capped, distinct, has_key, keys_weight, place, remove_key, with_key};
+ghost use Rattle.hack_values.specs.Keys.{capped, distinct, has_key, key_weight, keys_weight, place, remove_key, with_key};
 ghost use Rattle.hack_values.specs.Limits.{IsTooLarge, IsTooDeep};
+ghost use Rattle.hack_values.specs.Val.{depth};
 ghost use Rattle.hack_values.specs.Val.Val.{keyset};
 
-use crate::key::{copy_keys, place_of, push_key};
+use crate::key::{copy_keys, keys_weight_of, place_of, push_key, take_key};
 use crate::value_fault::MAX_WEIGHT;
 use crate::{Key, NoMemory, ValueFault};
 use indexmap::IndexSet;
+use indexmap::set::IntoIter;
 use std::alloc::Global;
 use std::marker::Model;
 
@@ -18,7 +20,7 @@ pub struct KeysetVal {
 }
 
 impl Model for KeysetVal {
-    ghost use Rattle.std.specs.Prelude.{List, ◌≡◌, ◌+◌, ◌≤◌, true};
+    ghost use Rattle.std.specs.Prelude.{List, ◌≡◌, ◌+◌, true};
     ghost use Rattle.std.specs.Coded.{coded_list};
     ghost use Rattle.hack_values.specs.declared.key.Key.{Key};
     ghost use Rattle.hack_values.specs.contracts.key.Key.{the_row};
@@ -27,12 +29,11 @@ impl Model for KeysetVal {
 
     ghost coded = { coded_list the_row.coded };
 
-    ghost use Rattle.hack_values.specs.Keys.{distinct, keys_weight};
-    ghost use Rattle.hack_values.specs.Limits.{max_weight};
+    ghost use Rattle.hack_values.specs.Keys.{capped, distinct, keys_weight};
 
     ghost view = { λ a. a.items.keys };
 
-    ghost invariant = { λ a. (distinct a.items.keys ≡ true) × (a.weight ≡ 1 + keys_weight a.items.keys) × (a.weight ≤ max_weight) };
+    ghost invariant = { λ a. (distinct a.items.keys ≡ true) × (a.weight ≡ capped (1 + keys_weight a.items.keys)) };
 }
 
 impl KeysetVal {
@@ -44,6 +45,23 @@ impl KeysetVal {
             items: IndexSet::new(alloc),
             weight: 1,
         }
+    }
+
+    /// The empty keyset, with room for so many keys.
+    pub(crate) fn with_room(alloc: Global, count: usize) -> Result<KeysetVal, NoMemory>
+        ensures { IfOk result (λ made. made ≡ []) }
+    {
+        Ok(KeysetVal {
+            items: IndexSet::with_capacity(alloc, count)?,
+            weight: 1,
+        })
+    }
+
+    /// Its keys, in order, so that they can be given away one by one.
+    pub fn into_keys(self) -> IntoIter<Key>
+        ensures { result ≡ self }
+    {
+        self.items.into_iter()
     }
 
     /// The weight as a cell.
@@ -93,8 +111,8 @@ impl KeysetVal {
     {
         match place_of(&self.items, key) {
             Some(at) => {
-                if let Some(gone) = self.items.shift_remove_index(at) {
-                    self.weight = self.weight.saturating_sub(gone.weight());
+                if let Some(gone) = take_key(&mut self.items, at) {
+                    self.weight = weight_without(self.items.as_slice(), self.weight, &gone);
                 }
                 true
             }
@@ -111,6 +129,7 @@ impl KeysetVal {
         ensures deep { (result ≡ Err ValueFault.TooDeep) ↔ IsTooDeep (keyset (with_key self.old key)) }
     {
         match self.find(&key) {
+            Some(_) if self.weight > MAX_WEIGHT => Err(ValueFault::TooLarge),
             Some(_) => Ok(()),
             None => {
                 let weight = self.weight.saturating_add(key.weight());
@@ -124,6 +143,29 @@ impl KeysetVal {
         }
     }
 
+    /// Puts a key at the end, where it isn't there yet, whatever it weighs: for a part of a value whose
+    /// limits are tested as a whole. Drops it where it is there or there is no memory.
+    #[tactic(auto, using(crate::proofs::KeyLaws::pushes, crate::proofs::KeyLaws::weighs))]
+    pub fn put(&mut self, key: Key) -> Result<(), NoMemory>
+        ensures ok { OnOk result (self.new ≡ with_key self.old key) }
+        ensures unchanged { OnErr result (self.new ≡ self.old) }
+    {
+        if self.find(&key).is_some() {
+            return Ok(());
+        }
+        let weight = self.weight.saturating_add(key.weight());
+        push_key(&mut self.items, key)?;
+        self.weight = weight;
+        Ok(())
+    }
+
+    /// The depth as a cell.
+    pub fn depth(&self) -> u32
+        ensures { result ≡ depth (keyset self.now) }
+    {
+        1
+    }
+
     /// An equal keyset.
     pub(crate) fn copy(&self) -> Result<KeysetVal, NoMemory>
         ensures { IfOk result (λ k. k ≡ self.now) }
@@ -133,5 +175,17 @@ impl KeysetVal {
             items,
             weight: self.weight,
         })
+    }
+}
+
+// What the other keys weigh, once one is gone.
+fn weight_without(others: &[Key], all: u32, gone: &Key) -> u32
+    requires { all ≡ capped (1 + (keys_weight others.now + key_weight gone.now)) }
+    ensures { result ≡ capped (1 + keys_weight others.now) }
+{
+    if all == u32::MAX {
+        keys_weight_of(others, 1)
+    } else {
+        all - gone.weight()
     }
 }

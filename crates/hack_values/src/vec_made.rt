@@ -4,7 +4,7 @@ ghost use Rattle.hack_values.specs.Val.{from_list};
 ghost use Rattle.hack_values.specs.Val.Val.{vec};
 ghost use Rattle.hack_values.specs.View.{vals_of};
 
-use crate::cell::Known;
+use crate::known::{Depth, Known};
 use crate::value_fault::{MAX_DEPTH, MAX_WEIGHT};
 use crate::{Cell, ValueFault, VecVal};
 
@@ -32,7 +32,7 @@ impl VecVal {
             items: list.items,
             known: Some(Known {
                 weight,
-                depth,
+                depth: Depth::exactly(depth),
                 but: None,
             }),
         })

@@ -10,9 +10,9 @@ ghost use Rattle.hack_values.specs.Val.{from_list, weights, depths};
 ghost use Rattle.hack_values.specs.Val.Val.{vec};
 ghost use Rattle.hack_values.specs.View.{val_of, item_of};
 
-use crate::cell::Known;
+use crate::known::{Depth, Known};
 use crate::value_fault::{MAX_DEPTH, MAX_WEIGHT};
-use crate::{Cell, ValueFault, VecVal};
+use crate::{Cell, NoMemory, ValueFault, VecVal};
 
 impl VecVal {
     /// The cell at a place, for writing; None where the place isn't below the length.
@@ -26,8 +26,7 @@ impl VecVal {
         self.items.get_mut(at)
     }
 
-    // What is known of the others than the one at a place. It isn't where that one is as deep as all
-    // and may be the only one.
+    // What is known of the others than the one at a place.
     fn known_but(&self, at: usize) -> Option<Known>
         ensures { ForSome result (λ known. (known.but ≡ Some at) × IsVecKnown self.now known) }
     {
@@ -39,17 +38,25 @@ impl VecVal {
             return None;
         }
         let weight = self.weight();
-        let depth = self.depth();
-        if weight == u32::MAX || depth == u32::MAX {
-            return None;
-        }
-        if self.items[at].depth() >= (depth - 1).max(1) {
+        if weight == u32::MAX {
             return None;
         }
         Some(Known {
             weight: weight - self.items[at].weight(),
-            depth,
+            depth: self.depth_at_hand().without(self.items[at].depth_at_hand()),
             but: Some(at),
+        })
+    }
+
+    // What is known with one more cell.
+    fn known_with(&self, value: &Cell) -> Option<Known>
+        ensures { ForSome result (IsVecKnown (self.now ++ val_of value.now ∷ [])) }
+    {
+        let _ = self.known?;
+        Some(Known {
+            weight: self.weight().saturating_add(value.weight()),
+            depth: self.depth_at_hand().with(value.depth_at_hand()),
+            but: None,
         })
     }
 
@@ -60,13 +67,25 @@ impl VecVal {
     {
         self.known = Some(Known {
             weight,
-            depth,
+            depth: Depth::exactly(depth),
             but: None,
         });
     }
 
-    /// Puts a value at the end, and drops it where it is refused. Takes the time of weighing the value,
-    /// where the vec was only appended to since it was made.
+    /// Puts a value at the end, whatever it weighs: for a part of a value whose limits are tested as a
+    /// whole. Drops it where there is no memory.
+    #[tactic(auto, using(crate::proofs::Rows::grows))]
+    pub fn push(&mut self, value: Cell) -> Result<(), NoMemory>
+        ensures ok { OnOk result (self.new ≡ self.old ++ val_of value ∷ []) }
+        ensures unchanged { OnErr result (self.new ≡ self.old) }
+    {
+        let known = self.known_with(&value);
+        self.items.push(value)?;
+        self.known = known;
+        Ok(())
+    }
+
+    /// Puts a value at the end, and drops it where it is refused.
     #[tactic(auto, using(crate::proofs::Rows::grows, crate::specs::Val::rows))]
     pub fn append(&mut self, value: Cell) -> Result<(), ValueFault>
         ensures ok { OnOk result (self.new ≡ self.old ++ val_of value ∷ []) }
@@ -78,8 +97,8 @@ impl VecVal {
         if weight > MAX_WEIGHT {
             return Err(ValueFault::TooLarge);
         }
-        let depth = self.depth().max(value.depth().saturating_add(1));
-        if depth > MAX_DEPTH {
+        let depth = self.depth_with(&value);
+        if depth.at_most > MAX_DEPTH {
             return Err(ValueFault::TooDeep);
         }
         self.items.push(value)?;

@@ -1,4 +1,6 @@
 use Rattle.std.proofs.Common.{◌∙◌, ap, rules}
+use Rattle.std.proofs.lemmas.List.{length-set}
+use Rattle.hack_values.proofs.Knowns.{known-set_value}
 use Rattle.hack_values.specs.View.{val_of, item-vals}
 use Rattle.hack_values.specs.Keys.{set_value}
 use Rattle.hack_values.proofs.Rows.{set-entries, length-vals, length-entries, values-entries, lent}
@@ -10,3 +12,12 @@ returns c = (
   rw (← c.self.view_is)
       (search (rules, length-entries c.self.inside.keys.keys c.self.inside.vals.items c.self.invariant.0, values-entries c.self.inside.keys.keys c.self.inside.vals.items c.self.invariant.0, length-vals, item-vals)),
 )
+
+pub invariant_of-self-lent : goal.invariant_of-self-lent
+invariant_of-self-lent c lent =
+    let ks = c.self.inside.keys.keys in
+    let cs = c.self.inside.vals.items in
+    let known = c.known_but-self-inside.ensures in (
+      λ w. (length-set cs c.args.at w ∙ c.self.invariant.0, c.self.invariant.1, λ x e. known-set_value x ks cs c.args.at w (known x e)),
+      (c.self.invariant.0, c.self.invariant.1, λ x e. (known x e).1),
+    )

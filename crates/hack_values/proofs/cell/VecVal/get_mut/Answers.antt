@@ -12,8 +12,7 @@ returns c = (
 
 pub invariant_of-self-lent : goal.invariant_of-self-lent
 invariant_of-self-lent c lent =
-    let known = c.known_but-self-inside.ensures in
-    (
+    let known = c.known_but-self-inside.ensures in (
       λ w x e. known-set x c.self.inside.items.items c.args.at w (known x e),
       λ x e. (known x e).1,
     )
