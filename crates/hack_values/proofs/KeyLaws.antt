@@ -1,8 +1,9 @@
 -- Laws of keys and of lists of distinct keys.
-use Rattle.std.proofs.Common.{◌≡◌, ℕ, zero, suc, ◌+◌, Bool, true, false, List, [], ◌∷◌, ◌++◌, length, refl, ap, sym, arith, cond, Option, Some, None, IsSome, is_some, nat_lt, subst}
-use Rattle.std.specs.List.{position_or_len, remove}
+use Rattle.std.proofs.Common.{◌≡◌, ℕ, zero, suc, ◌+◌, Bool, true, false, List, [], ◌∷◌, ◌++◌, length, refl, ap, sym, ◌∙◌, ◌||◌, arith, cond, Option, Some, None, IsSome, is_some, nat_lt, subst, slice_get}
+use Rattle.std.specs.List.{position_or_len, remove, list_any}
 use Rattle.std.proofs.lemmas.Slice.Eq.{bytes_eq-Decides}
 use Rattle.std.proofs.lemmas.Bool.Decides.{Decides-int_eq}
+use Rattle.hack_values.specs.contracts.key.KeyPartialEq.TheImpl as derived
 use Rattle.hack_values.specs.declared.key.Key.{Key}
 use Rattle.hack_values.specs.declared.key.Key.TheVariants.{Int, Str}
 use Rattle.hack_values.specs.Keys.{key_eq, has_key, distinct, place, key_weight, keys_weight}
@@ -74,7 +75,12 @@ pub keys_weight-push : (ks : List Key) (k : Key) → keys_weight (ks ++ k ∷ []
 keys_weight-push [] k = omega arith
 keys_weight-push (j ∷ ks) k = omega (arith, keys_weight-push ks k)
 
-pub ruleset weighs = (keys_weight-push)
+pub keys_weight-remove : (ks : List Key) (at : ℕ) (k : Key) → slice_get ks at ≡ Some k → keys_weight ks ≡ keys_weight (remove ks at) + key_weight k
+keys_weight-remove [] at k e = absurd (cc)
+keys_weight-remove (j ∷ ks) zero k e = let same : j ≡ k = cc in let weigh = ap key_weight same in omega (arith, weigh)
+keys_weight-remove (j ∷ ks) (suc at) k e = omega (arith, keys_weight-remove ks at k e)
+
+pub ruleset weighs = (keys_weight-push, keys_weight-remove)
 
 -- a key has a place exactly where it is there
 position_or_len-absent : (k : Key) (ks : List Key) → has_key k ks ≡ false → nat_lt (position_or_len (key_eq k) ks) (length ks) ≡ false
@@ -96,3 +102,21 @@ pub found-has_key : (r : Option ℕ) (k : Key) (ks : List Key) → r ≡ place k
 found-has_key r k ks e h = subst (λ o. IsSome o) (sym e) (place-there k ks (place k ks) refl h)
 
 pub ruleset places = (has_key-found, found-has_key)
+
+-- a table of keys knows by its own test whether a key is there
+any-absent : (k : Key) (ks : List Key) → has_key k ks ≡ false → list_any (key_eq k) ks ≡ false
+any-absent k [] e = refl
+any-absent k (j ∷ ks) e = by_test (key_eq k j) (λ h. absurd (grind (arith, e, h))) (λ h. grind (arith, e, h, any-absent k ks))
+
+derived-key_eq : (a b : Key) → derived.eq-value.it a b ≡ key_eq a b
+derived-key_eq (Int a) (Int b) = refl
+derived-key_eq (Str a) (Str b) = refl
+derived-key_eq (Int a) (Str b) = refl
+derived-key_eq (Str a) (Int b) = refl
+
+any-derived : (k : Key) (ks : List Key) → list_any (derived.eq-value.it k) ks ≡ list_any (key_eq k) ks
+any-derived k [] = refl
+any-derived k (j ∷ ks) = λ i. derived-key_eq k j i || any-derived k ks i
+
+pub any-no_place : (k : Key) (ks : List Key) → place k ks ≡ None → list_any (derived.eq-value.it k) ks ≡ false
+any-no_place k ks e = any-derived k ks ∙ any-absent k ks (has_key-no_place k ks e)

@@ -3,3 +3,5 @@ pub mod Rows
 pub mod Digits
 pub mod SameLaws
 pub mod Listing
+pub mod Knowns
+pub mod Folds

@@ -1,5 +1,5 @@
 -- Lists of cells and lists of entries as values.
-use Rattle.std.proofs.Common.{◌≡◌, ℕ, zero, suc, ◌+◌, ◌<◌, max, List, [], ◌∷◌, ◌++◌, length, refl, ap, sym, ◌∙◌, arith, Some, slice_set, slice_get, slice_index_or}
+use Rattle.std.proofs.Common.{◌≡◌, ℕ, zero, suc, ◌+◌, ◌<◌, ◌≤◌, max, List, [], ◌∷◌, ◌++◌, length, refl, ap, sym, ◌∙◌, arith, Some, slice_set, slice_get, slice_index_or}
 use Rattle.std.specs.List.{zip, remove}
 use base.Fml.{GName}
 use borrow.Follows.Closed.{read_of}
@@ -144,3 +144,34 @@ set-set_back (x ∷ cs) zero c d e = ap (λ y. y ∷ cs) e
 set-set_back (x ∷ cs) (suc at) c d e = ap (λ rest. x ∷ rest) (set-set_back cs at c d e)
 
 pub ruleset entry_back = (set-set_back)
+
+-- lists of one length, each with one more
+pub length-push : {X Y : Type 0} (xs : List X) (ys : List Y) (x : X) (y : Y) → length xs ≡ length ys → length (xs ++ x ∷ []) ≡ length (ys ++ y ∷ [])
+length-push [] [] x y e = refl
+length-push [] (b ∷ ys) x y e = absurd (omega arith)
+length-push (a ∷ xs) [] x y e = absurd (omega arith)
+length-push (a ∷ xs) (b ∷ ys) x y e = ap suc (length-push xs ys x y (omega arith))
+
+-- what stands at a place, and the others
+pub weights-others : (cs : List Cell) (at : ℕ) (c : Cell) → at < length cs → c ≡ slice_index_or cs at c → weights (vals_of cs) ≡ weights (remove (vals_of cs) at) + weight (val_of c)
+weights-others [] at c h e = absurd (omega arith)
+weights-others (d ∷ cs) zero c h e = let same : weight (val_of c) ≡ weight (val_of d) = ap (λ x. weight (val_of x)) e in omega (arith, same)
+weights-others (d ∷ cs) (suc at) c h e = omega (arith, weights-others cs at c (omega arith) e)
+
+pub depths-others : (cs : List Cell) (at : ℕ) (c : Cell) → at < length cs → c ≡ slice_index_or cs at c → depths (vals_of cs) ≡ max (depths (remove (vals_of cs) at)) (depth (val_of c))
+depths-others [] at c h e = absurd (omega arith)
+depths-others (d ∷ cs) zero c h e = let same : depth (val_of c) ≡ depth (val_of d) = ap (λ x. depth (val_of x)) e in omega (arith, same)
+depths-others (d ∷ cs) (suc at) c h e = omega (arith, depths-others cs at c (omega arith) e)
+
+pub remove-beyond : {X : Type 0} (xs : List X) (at : ℕ) → length xs ≤ at → remove xs at ≡ xs
+remove-beyond [] zero h = refl
+remove-beyond [] (suc at) h = refl
+remove-beyond (x ∷ xs) zero h = absurd (omega arith)
+remove-beyond (x ∷ xs) (suc at) h = ap (λ rest. x ∷ rest) (remove-beyond xs at (omega arith))
+
+pub remove-set : {X : Type 0} (xs : List X) (at : ℕ) (x : X) → remove (slice_set xs at x) at ≡ remove xs at
+remove-set [] at x = refl
+remove-set (y ∷ xs) zero x = refl
+remove-set (y ∷ xs) (suc at) x = ap (λ rest. y ∷ rest) (remove-set xs at x)
+
+pub ruleset others = (weights-others, depths-others, remove-beyond, remove-set)

@@ -2,7 +2,7 @@
 use Rattle.std.specs.Prelude.{ℕ, zero, suc, ◌+◌, ◌-◌, ◌^◌, min, Bool, true, false, List, [], ◌∷◌, ◌++◌, length, cond, Option, Some, None}
 use Rattle.std.specs.Ordering.{int_eq}
 use Rattle.std.specs.Str.{bytes_eq}
-use Rattle.std.specs.List.{position, remove}
+use Rattle.std.specs.List.{fold, position, remove}
 use Rattle.std.specs.Map.{keys_of}
 use Rattle.hack_values.specs.declared.key.Key.{Key}
 use Rattle.hack_values.specs.declared.key.Key.TheVariants.{Int, Str}
@@ -48,6 +48,10 @@ with_key_at (Some at) ks key = ks
 abbrev pub with_key : List Key → Key → List Key
 with_key ks key = with_key_at (place key ks) ks key
 
+-- the keys, each once, where it comes first
+abbrev pub keys_put : List Key → List Key
+keys_put ks = fold with_key [] ks
+
 -- the entries with another value at a place
 abbrev pub set_value : {V : Type 0} → List (Key × V) → ℕ → V → List (Key × V)
 set_value [] at v = []
@@ -61,6 +65,13 @@ put_at (Some at) es key v = set_value es at v
 -- the entries with a value under a key: a key that is there keeps its place, and a new one goes last
 abbrev pub put_entry : {V : Type 0} → List (Key × V) → Key → V → List (Key × V)
 put_entry es key v = put_at (place key (keys_of es)) es key v
+
+abbrev pub put_pair : {V : Type 0} → List (Key × V) → Key × V → List (Key × V)
+put_pair es e = put_entry es e.0 e.1
+
+-- the entries, put one after another
+abbrev pub entries_put : {V : Type 0} → List (Key × V) → List (Key × V)
+entries_put es = fold put_pair [] es
 
 -- the weight of a key: 1, and a text's bytes beside
 abbrev pub key_weight : Key → ℕ

@@ -15,3 +15,7 @@ IsTooLarge v = max_weight < weight v
 -- too deep, where the weight is within its limit
 abbrev pub IsTooDeep : Val → Type 0
 IsTooDeep v = (weight v ≤ max_weight) × (max_depth < depth v)
+
+-- within both limits
+abbrev pub IsWithin : Val → Type 0
+IsWithin v = (weight v ≤ max_weight) × (depth v ≤ max_depth)

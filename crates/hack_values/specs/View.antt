@@ -37,6 +37,10 @@ vals_of cs = map val_of cs
 abbrev pub cells_of : List Val → List Cell
 cells_of vs = map cell_of vs
 
+-- keys and cells as entries
+abbrev pub pairs_of : List (Key × Cell) → List (Key × Val)
+pairs_of es = map (λ e. (e.0, val_of e.1)) es
+
 abbrev pub some_cell : Option Val → Option Cell
 some_cell None = None
 some_cell (Some v) = Some (cell_of v)

@@ -1,10 +1,12 @@
-ghost use Rattle.std.specs.Prelude.{◌≡◌, [], true, length, IfOk};
+ghost use Rattle.std.specs.Prelude.{◌≡◌, ◌<◌, ◌^◌, [], true, length, IfOk};
 ghost use Rattle.std.specs.Map.{keys_of};
 ghost use Rattle.hack_values.specs.Keys.{distinct};
 ghost use Rattle.hack_values.specs.View.{cells_of};
 
 use crate::key::copy_keys;
+use crate::known::Known;
 use crate::{Key, KeysetVal, NoMemory, Text};
+use indexmap::IndexSet;
 use std::alloc::Global;
 use std::marker::Model;
 
@@ -23,13 +25,6 @@ pub enum Cell {
     Dict(DictVal),
     Keyset(KeysetVal),
     Obj(u32),
-}
-
-/// Weight and depth of a container, as they are kept where they are known.
-#[derive(Clone, Copy, Debug)]
-pub(crate) struct Known {
-    pub(crate) weight: u32,
-    pub(crate) depth: u32,
 }
 
 /// A list of cells.
@@ -73,7 +68,7 @@ impl Model for VecVal {
 #[cycle(cell)]
 #[derive(Debug, Drop)]
 pub struct DictVal {
-    pub(crate) keys: Vec<Key>,
+    pub(crate) keys: IndexSet<Key>,
     pub(crate) vals: Vec<Cell>,
     pub(crate) known: Option<Known>,
 }
@@ -95,9 +90,9 @@ impl Model for DictVal {
     ghost use Rattle.hack_values.specs.Keys.{distinct};
     ghost use Rattle.hack_values.specs.Known.{IsDictKnown};
 
-    ghost view = { λ a. zip a.keys.items (map val_of a.vals.items) };
+    ghost view = { λ a. zip a.keys.keys (map val_of a.vals.items) };
 
-    ghost invariant = { λ a. (length a.vals.items ≡ length a.keys.items) × (distinct a.keys.items ≡ true) × ForSome a.known (IsDictKnown (zip a.keys.items (map val_of a.vals.items))) };
+    ghost invariant = { λ a. (length a.vals.items ≡ length a.keys.keys) × (distinct a.keys.keys ≡ true) × ForSome a.known (IsDictKnown (zip a.keys.keys (map val_of a.vals.items))) };
 
     ghost use Rattle.hack_values.specs.Val.{entry_depths};
 
@@ -106,7 +101,7 @@ impl Model for DictVal {
     ghost use Rattle.std.proofs.Common.{arith};
     ghost use Rattle.hack_values.specs.Falls.{most_le-entries};
 
-    ghost size_decreases = { λ a h. omega (arith, most_le-entries a.keys.items a.vals.items h.0) };
+    ghost size_decreases = { λ a h. omega (arith, most_le-entries a.keys.keys a.vals.items h.0) };
 }
 
 /// What a local or a place of the stack holds.
@@ -120,7 +115,7 @@ pub enum Slot {
 fn copy_cells(alloc: Global, cells: &[Cell]) -> Result<Vec<Cell>, NoMemory>
     ensures { IfOk result (λ copies. copies.items ≡ cells.now) }
 {
-    let mut copies = Vec::new(alloc);
+    let mut copies = Vec::with_capacity(alloc, cells.len())?;
     for cell in cells {
         copies.push(cell.copy(alloc)?)?;
     }
@@ -140,7 +135,7 @@ impl Cell {
             Cell::Str(text) => Ok(Cell::Str(text.copy(alloc)?)),
             Cell::Vec(cells) => Ok(Cell::Vec(cells.copy(alloc)?)),
             Cell::Dict(entries) => Ok(Cell::Dict(entries.copy(alloc)?)),
-            Cell::Keyset(keys) => Ok(Cell::Keyset(keys.copy(alloc)?)),
+            Cell::Keyset(keys) => Ok(Cell::Keyset(keys.copy()?)),
             Cell::Obj(number) => Ok(Cell::Obj(*number)),
         }
     }
@@ -153,11 +148,17 @@ impl VecVal {
     {
         VecVal {
             items: Vec::new(alloc),
-            known: Some(Known {
-                weight: 1,
-                depth: 1,
-            }),
+            known: Some(Known::empty()),
         }
+    }
+
+    /// How many cells it has.
+    #[tactic(auto, using(crate::proofs::Rows::elements))]
+    pub fn len(&self) -> usize
+        ensures count { result ≡ length self.now }
+        ensures small { length self.now < 2 ^ 63 }
+    {
+        self.items.len()
     }
 
     /// All its cells.
@@ -186,12 +187,9 @@ impl DictVal {
         ensures { result ≡ [] }
     {
         DictVal {
-            keys: Vec::new(alloc),
+            keys: IndexSet::new(alloc),
             vals: Vec::new(alloc),
-            known: Some(Known {
-                weight: 1,
-                depth: 1,
-            }),
+            known: Some(Known::empty()),
         }
     }
 
@@ -199,6 +197,7 @@ impl DictVal {
     #[tactic(auto, using(crate::proofs::Rows::entries))]
     pub fn len(&self) -> usize
         ensures count { result ≡ length self.now }
+        ensures small { length self.now < 2 ^ 63 }
         ensures distinct { distinct (keys_of self.now) ≡ true }
     {
         self.keys.len()
@@ -209,7 +208,7 @@ impl DictVal {
     fn copy(&self, alloc: Global) -> Result<DictVal, NoMemory>
         ensures { IfOk result (λ d. d ≡ self.now) }
     {
-        let keys = copy_keys(alloc, self.keys.as_slice())?;
+        let keys = copy_keys(&self.keys)?;
         let vals = copy_cells(alloc, self.vals.as_slice())?;
         Ok(DictVal {
             keys,

@@ -1,19 +1,18 @@
-ghost use Rattle.std.specs.Prelude.{◌≡◌, ◌<◌, ◌↔◌, ◌++◌, [], ◌∷◌, length, IsTrue, IsSome, IfSome, OnOk, OnErr, Some, None, Err, true, slice_get};
+ghost use Rattle.std.specs.Prelude.{◌≡◌, ◌+◌, ◌<◌, ◌↔◌, length, IsTrue, IsSome, IfSome, Some, true, slice_get};
 ghost use Rattle.std.specs.Borrow.{sem, LendsIf};
+ghost use Rattle.std.specs.List.{remove};
 ghost use Rattle.std.specs.Map.{keys_of, values_of};
+ghost use Rattle.std.specs.Option.{ForSome};
 ghost use Rattle.hack_values.specs.contracts.cell.Cell.{the_row as cell_row};
 ghost use Rattle.hack_values.specs.contracts.cell.DictVal.{the_row as dict_row};
-ghost use Rattle.hack_values.specs.Keys.{has_key, place, put_entry, remove_entry, set_value};
-ghost use Rattle.hack_values.specs.Limits.{IsTooLarge, IsTooDeep};
-ghost use Rattle.hack_values.specs.Val.{from_pairs};
-ghost use Rattle.hack_values.specs.Val.Val.{dict};
+ghost use Rattle.hack_values.specs.Keys.{capped, has_key, place, remove_entry, set_value};
+ghost use Rattle.hack_values.specs.Known.{IsDictKnown};
+ghost use Rattle.hack_values.specs.Val.{entry_weights, entry_depths};
 ghost use Rattle.hack_values.specs.View.{val_of, item_of};
 
-use crate::cell::Known;
-use crate::key::place_of;
-use crate::value_fault::{MAX_DEPTH, MAX_WEIGHT};
-use crate::{Cell, DictVal, Key, ValueFault};
-use std::mem;
+use crate::key::{place_of, take_key};
+use crate::known::{Depth, Known};
+use crate::{Cell, DictVal, Key};
 
 impl DictVal {
     /// The entry at a place; None where the place isn't below the length.
@@ -22,20 +21,21 @@ impl DictVal {
         ensures variant { IsSome result ↔ (at < length self.now) }
         ensures value { IfSome result (λ e. slice_get self.now at ≡ Some (e.0.now, val_of e.1.now)) }
     {
-        if at < self.keys.len() {
-            Some((&self.keys[at], &self.vals[at]))
+        let keys = self.keys.as_slice();
+        if at < keys.len() {
+            Some((&keys[at], &self.vals[at]))
         } else {
             None
         }
     }
 
-    /// Where the key stands; None where it isn't there. Walks over the keys.
+    /// Where the key stands; None where it isn't there.
     #[tactic(auto, using(crate::proofs::Rows::entries, crate::proofs::KeyLaws::places))]
     pub fn find(&self, key: &Key) -> Option<usize>
         ensures place { result ≡ place key.now (keys_of self.now) }
         ensures there { IsSome result ↔ (has_key key.now (keys_of self.now) ≡ true) }
     {
-        place_of(self.keys.as_slice(), key)
+        place_of(&self.keys, key)
     }
 
     /// The value at a place, for writing; None where the place isn't below the length.
@@ -45,8 +45,55 @@ impl DictVal {
         ensures variant { IsSome result ↔ (at < length self.old) }
         ensures value { IfSome result (λ c. item_of (values_of self.old) at ≡ Some c.now) }
     {
-        self.known = None;
+        self.known = self.known_but(at);
         self.vals.get_mut(at)
+    }
+
+    // What is known of the other entries than the one at a place.
+    pub(crate) fn known_but(&self, at: usize) -> Option<Known>
+        ensures { ForSome result (λ known. (known.but ≡ Some at) × IsDictKnown self.now known) }
+    {
+        let known = self.known?;
+        if known.but == Some(at) {
+            return Some(known);
+        }
+        if at >= self.vals.len() {
+            return None;
+        }
+        let weight = self.weight();
+        if weight == u32::MAX {
+            return None;
+        }
+        let keys = self.keys.as_slice();
+        Some(Known {
+            weight: weight - keys[at].weight() - self.vals[at].weight(),
+            depth: self.depth_at_hand().without(self.vals[at].depth_at_hand()),
+            but: Some(at),
+        })
+    }
+
+    // What is known of the other entries, once the one at a place is gone.
+    fn known_without(&self, at: usize) -> Option<Known>
+        ensures { ForSome result (IsDictKnown (remove self.now at)) }
+    {
+        let known = self.known_but(at)?;
+        Some(Known {
+            weight: known.weight,
+            depth: known.depth,
+            but: None,
+        })
+    }
+
+    /// Keeps its weight and depth, as after a write through `value_mut` of which they are known.
+    pub fn know(&mut self, weight: u32, depth: u32)
+        requires { (weight ≡ capped (1 + entry_weights self.old)) × (depth ≡ capped (1 + entry_depths self.old)) }
+        ensures { self.new ≡ self.old }
+    {
+        self.known = Some(Known {
+            weight,
+            depth: Depth::exactly(depth),
+            but: None,
+        });
     }
 
     /// Takes the key out and closes up; false where it isn't there.
@@ -57,78 +104,13 @@ impl DictVal {
     {
         match self.find(key) {
             Some(at) => {
-                self.known = None;
-                let _ = self.keys.remove(at);
+                let known = self.known_without(at);
                 let _ = self.vals.remove(at);
+                let _ = take_key(&mut self.keys, at);
+                self.known = known;
                 true
             }
             None => false,
         }
-    }
-
-    /// Puts a value under a key: a key that is there keeps its place, and a new one goes last.
-    /// Drops both where they are refused.
-    pub fn add_elem(&mut self, key: Key, value: Cell) -> Result<(), ValueFault>
-        ensures ok { OnOk result (self.new ≡ put_entry self.old key (val_of value)) }
-        ensures unchanged { OnErr result (self.new ≡ self.old) }
-        ensures large { (result ≡ Err ValueFault.TooLarge) ↔ IsTooLarge (dict (from_pairs (put_entry self.old key (val_of value)))) }
-        ensures deep { (result ≡ Err ValueFault.TooDeep) ↔ IsTooDeep (dict (from_pairs (put_entry self.old key (val_of value)))) }
-    {
-        match self.find(&key) {
-            Some(at) => self.replace(at, value),
-            None => self.push(key, value),
-        }
-    }
-
-    #[tactic(auto, using(crate::proofs::Rows::entries, crate::proofs::Rows::entry_back, crate::specs::Val::rows))]
-    fn replace(&mut self, at: usize, value: Cell) -> Result<(), ValueFault>
-        requires { at < length self.old }
-        ensures ok { OnOk result (self.new ≡ set_value self.old at (val_of value)) }
-        ensures unchanged { OnErr result (self.new ≡ self.old) }
-        ensures large { (result ≡ Err ValueFault.TooLarge) ↔ IsTooLarge (dict (from_pairs (set_value self.old at (val_of value)))) }
-        ensures deep { (result ≡ Err ValueFault.TooDeep) ↔ IsTooDeep (dict (from_pairs (set_value self.old at (val_of value)))) }
-    {
-        self.known = None;
-        let old = mem::replace(&mut self.vals[at], value);
-        let weight = self.weight();
-        if weight > MAX_WEIGHT {
-            self.vals[at] = old;
-            return Err(ValueFault::TooLarge);
-        }
-        let depth = self.depth();
-        if depth > MAX_DEPTH {
-            self.vals[at] = old;
-            return Err(ValueFault::TooDeep);
-        }
-        self.known = Some(Known { weight, depth });
-        Ok(())
-    }
-
-    #[tactic(auto, using(crate::proofs::Rows::entries, crate::proofs::Rows::entry_grows, crate::specs::Val::rows, crate::proofs::KeyLaws::pushes))]
-    fn push(&mut self, key: Key, value: Cell) -> Result<(), ValueFault>
-        requires { place key (keys_of self.old) ≡ None }
-        ensures ok { OnOk result (self.new ≡ self.old ++ (key, val_of value) ∷ []) }
-        ensures unchanged { OnErr result (self.new ≡ self.old) }
-        ensures large { (result ≡ Err ValueFault.TooLarge) ↔ IsTooLarge (dict (from_pairs (self.old ++ (key, val_of value) ∷ []))) }
-        ensures deep { (result ≡ Err ValueFault.TooDeep) ↔ IsTooDeep (dict (from_pairs (self.old ++ (key, val_of value) ∷ []))) }
-    {
-        let weight = self
-            .weight()
-            .saturating_add(key.weight())
-            .saturating_add(value.weight());
-        if weight > MAX_WEIGHT {
-            return Err(ValueFault::TooLarge);
-        }
-        let depth = self.depth().max(value.depth().saturating_add(1));
-        if depth > MAX_DEPTH {
-            return Err(ValueFault::TooDeep);
-        }
-        self.keys.push(key)?;
-        let Ok(()) = self.vals.push(value) else {
-            self.keys.pop();
-            return Err(ValueFault::NoMemory);
-        };
-        self.known = Some(Known { weight, depth });
-        Ok(())
     }
 }

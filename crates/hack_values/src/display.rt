@@ -121,12 +121,13 @@ fn show_dict(entries: &DictVal, out: &mut Text) -> Result<(), NoMemory>
 {
     out.append(b"dict[")?;
     let mut first = true;
-    for at in 0..entries.keys.len() {
+    let keys = entries.keys.as_slice();
+    for at in 0..keys.len() {
         if !first {
             out.append(b", ")?;
         }
         first = false;
-        show_key_into(&entries.keys[at], out)?;
+        show_key_into(&keys[at], out)?;
         out.append(b" => ")?;
         show_cell(&entries.vals[at], out)?;
     }

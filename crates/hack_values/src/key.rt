@@ -1,11 +1,13 @@
-ghost use Rattle.std.specs.Prelude.{◌≡◌, ◌+◌, ◌↔◌, length, IfOk, IsTrue};
+ghost use Rattle.std.specs.Prelude.{◌≡◌, ◌+◌, ◌↔◌, ◌++◌, [], ◌∷◌, length, IfOk, OnOk, OnErr, IsTrue, IfNone, None, slice_get};
+ghost use Rattle.std.specs.List.{remove};
 ghost use Rattle.hack_values.specs.Keys.{key_eq, key_weight, keys_weight, capped, place};
 
 use crate::{NoMemory, Text};
-use std::alloc::Global;
+use indexmap::IndexSet;
+use std::alloc::{AllocError, Global};
 
 /// A key of a dict, or an element of a keyset.
-#[derive(Debug, Drop)]
+#[derive(Debug, Drop, PartialEq, Eq, Hash)]
 pub enum Key {
     Int(i64),
     Str(Text),
@@ -23,12 +25,23 @@ impl Key {
     }
 
     /// What the key adds to a container's weight.
-    pub(crate) fn weight(&self) -> u32
+    pub fn weight(&self) -> u32
         ensures { result ≡ capped (key_weight self.now) }
     {
         match self {
             Key::Int(_) => 1,
             Key::Str(text) => text_weight(text),
+        }
+    }
+}
+
+impl Clone for Key {
+    ghost is_clone = { λ k copy. copy ≡ k };
+
+    fn clone(&self) -> Result<Key, AllocError> {
+        match self {
+            Key::Int(number) => Ok(Key::Int(*number)),
+            Key::Str(text) => Ok(Key::Str(text.clone()?)),
         }
     }
 }
@@ -63,22 +76,37 @@ pub(crate) fn same_key(a: &Key, b: &Key) -> bool
     }
 }
 
-/// Where the key stands first. Walks over the keys.
-#[tactic(auto, using(crate::proofs::KeyLaws::keys))]
-pub(crate) fn place_of(keys: &[Key], key: &Key) -> Option<usize>
-    ensures { result ≡ place key.now keys.now }
+/// Where the key stands.
+pub(crate) fn place_of(keys: &IndexSet<Key>, key: &Key) -> Option<usize>
+    ensures { result ≡ place key.now keys.now.keys }
 {
-    keys.iter().position(|other| same_key(key, other))
+    keys.get_index_of(key)
 }
 
-pub(crate) fn copy_keys(alloc: Global, keys: &[Key]) -> Result<Vec<Key>, NoMemory>
-    ensures { IfOk result (λ copies. copies.items ≡ keys.now) }
+#[tactic(auto, using(std::proofs::lemmas::Grind::elements))]
+pub(crate) fn copy_keys(keys: &IndexSet<Key>) -> Result<IndexSet<Key>, NoMemory>
+    ensures { IfOk result (λ copies. copies.keys ≡ keys.now.keys) }
 {
-    let mut copies = Vec::new(alloc);
-    for key in keys {
-        copies.push(key.copy(alloc)?)?;
-    }
-    Ok(copies)
+    Ok(keys.clone()?)
+}
+
+/// Takes out the key at a place; those behind it close up.
+pub(crate) fn take_key(keys: &mut IndexSet<Key>, at: usize) -> Option<Key>
+    ensures taken { result ≡ slice_get keys.old.keys at }
+    ensures rest { keys.new.keys ≡ remove keys.old.keys at }
+    ensures unchanged { IfNone result (keys.new.keys ≡ keys.old.keys) }
+{
+    keys.shift_remove_index(at)
+}
+
+/// Adds a key that isn't there.
+pub(crate) fn push_key(keys: &mut IndexSet<Key>, key: Key) -> Result<(), NoMemory>
+    requires { place key keys.old.keys ≡ None }
+    ensures ok { OnOk result (keys.new.keys ≡ keys.old.keys ++ key ∷ []) }
+    ensures err { OnErr result (keys.new.keys ≡ keys.old.keys) }
+{
+    keys.insert(key)?;
+    Ok(())
 }
 
 /// `from` and what the keys add to it.

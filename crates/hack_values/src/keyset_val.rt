@@ -1,22 +1,26 @@
-ghost use Rattle.std.specs.Prelude.{◌≡◌, [], ◌<◌, ◌↔◌, length, IfOk, OnOk, OnErr, IsTrue, IsSome, IfSome, Some, Err, true, slice_get};
-ghost use Rattle.hack_values.specs.Keys.{distinct, has_key, place, remove_key, with_key};
+ghost use Rattle.std.specs.Prelude.{◌≡◌, ◌+◌, [], ◌<◌, ◌^◌, ◌↔◌, length, IfOk, OnOk, OnErr, IsTrue, IsSome, IfSome, Some, Err, true, slice_get};
+ghost use Rattle.hack_values.specs.Keys.{capped, distinct, has_key, key_weight, keys_weight, place, remove_key, with_key};
 ghost use Rattle.hack_values.specs.Limits.{IsTooLarge, IsTooDeep};
+ghost use Rattle.hack_values.specs.Val.{depth};
 ghost use Rattle.hack_values.specs.Val.Val.{keyset};
 
-use crate::key::{copy_keys, keys_weight_of, place_of};
+use crate::key::{copy_keys, keys_weight_of, place_of, push_key, take_key};
 use crate::value_fault::MAX_WEIGHT;
 use crate::{Key, NoMemory, ValueFault};
+use indexmap::IndexSet;
+use indexmap::set::IntoIter;
 use std::alloc::Global;
 use std::marker::Model;
 
 /// Distinct keys, in order.
 #[derive(Debug, Drop)]
 pub struct KeysetVal {
-    items: Vec<Key>,
+    items: IndexSet<Key>,
+    weight: u32,
 }
 
 impl Model for KeysetVal {
-    ghost use Rattle.std.specs.Prelude.{List, ◌≡◌, true};
+    ghost use Rattle.std.specs.Prelude.{List, ◌≡◌, ◌+◌, true};
     ghost use Rattle.std.specs.Coded.{coded_list};
     ghost use Rattle.hack_values.specs.declared.key.Key.{Key};
     ghost use Rattle.hack_values.specs.contracts.key.Key.{the_row};
@@ -25,11 +29,11 @@ impl Model for KeysetVal {
 
     ghost coded = { coded_list the_row.coded };
 
-    ghost use Rattle.hack_values.specs.Keys.{distinct};
+    ghost use Rattle.hack_values.specs.Keys.{capped, distinct, keys_weight};
 
-    ghost view = { λ a. a.items.items };
+    ghost view = { λ a. a.items.keys };
 
-    ghost invariant = { λ a. distinct a.items.items ≡ true };
+    ghost invariant = { λ a. (distinct a.items.keys ≡ true) × (a.weight ≡ capped (1 + keys_weight a.items.keys)) };
 }
 
 impl KeysetVal {
@@ -38,8 +42,33 @@ impl KeysetVal {
         ensures { result ≡ [] }
     {
         KeysetVal {
-            items: Vec::new(alloc),
+            items: IndexSet::new(alloc),
+            weight: 1,
         }
+    }
+
+    /// The empty keyset, with room for so many keys.
+    pub(crate) fn with_room(alloc: Global, count: usize) -> Result<KeysetVal, NoMemory>
+        ensures { IfOk result (λ made. made ≡ []) }
+    {
+        Ok(KeysetVal {
+            items: IndexSet::with_capacity(alloc, count)?,
+            weight: 1,
+        })
+    }
+
+    /// Its keys, in order, so that they can be given away one by one.
+    pub fn into_keys(self) -> IntoIter<Key>
+        ensures { result ≡ self }
+    {
+        self.items.into_iter()
+    }
+
+    /// The weight as a cell.
+    pub fn weight(&self) -> u32
+        ensures { result ≡ capped (1 + keys_weight self.now) }
+    {
+        self.weight
     }
 
     pub(crate) fn keys(&self) -> &[Key]
@@ -51,6 +80,7 @@ impl KeysetVal {
     /// How many keys it has.
     pub fn len(&self) -> usize
         ensures count { result ≡ length self.now }
+        ensures small { length self.now < 2 ^ 63 }
         ensures distinct { distinct self.now ≡ true }
     {
         self.items.len()
@@ -61,27 +91,29 @@ impl KeysetVal {
         ensures variant { IsSome result ↔ (at < length self.now) }
         ensures value { IfSome result (λ k. slice_get self.now at ≡ Some k.now) }
     {
-        self.items.get(at)
+        self.items.get_index(at)
     }
 
-    /// Where the key stands; None where it isn't there. Walks over the keys.
+    /// Where the key stands; None where it isn't there.
     #[tactic(auto, using(crate::proofs::KeyLaws::places))]
     pub fn find(&self, key: &Key) -> Option<usize>
         ensures place { result ≡ place key.now self.now }
         ensures there { IsSome result ↔ (has_key key.now self.now ≡ true) }
     {
-        place_of(self.items.as_slice(), key)
+        place_of(&self.items, key)
     }
 
     /// Takes the key out and closes up; false where it isn't there.
-    #[tactic(auto, using(crate::proofs::KeyLaws::removes))]
+    #[tactic(auto, using(crate::proofs::KeyLaws::removes, crate::proofs::KeyLaws::weighs))]
     pub fn remove(&mut self, key: &Key) -> bool
         ensures there { IsTrue result ↔ IsSome (place key.now self.old) }
         ensures rest { self.new ≡ remove_key key.now self.old }
     {
-        match place_of(self.items.as_slice(), key) {
+        match place_of(&self.items, key) {
             Some(at) => {
-                let _ = self.items.remove(at);
+                if let Some(gone) = take_key(&mut self.items, at) {
+                    self.weight = weight_without(self.items.as_slice(), self.weight, &gone);
+                }
                 true
             }
             None => false,
@@ -96,29 +128,64 @@ impl KeysetVal {
         ensures large { (result ≡ Err ValueFault.TooLarge) ↔ IsTooLarge (keyset (with_key self.old key)) }
         ensures deep { (result ≡ Err ValueFault.TooDeep) ↔ IsTooDeep (keyset (with_key self.old key)) }
     {
-        let weight = keys_weight_of(self.items.as_slice(), 1);
         match self.find(&key) {
-            Some(_) => {
+            Some(_) if self.weight > MAX_WEIGHT => Err(ValueFault::TooLarge),
+            Some(_) => Ok(()),
+            None => {
+                let weight = self.weight.saturating_add(key.weight());
                 if weight > MAX_WEIGHT {
                     return Err(ValueFault::TooLarge);
                 }
-                Ok(())
-            }
-            None => {
-                if weight.saturating_add(key.weight()) > MAX_WEIGHT {
-                    return Err(ValueFault::TooLarge);
-                }
-                self.items.push(key)?;
+                push_key(&mut self.items, key)?;
+                self.weight = weight;
                 Ok(())
             }
         }
     }
 
+    /// Puts a key at the end, where it isn't there yet, whatever it weighs: for a part of a value whose
+    /// limits are tested as a whole. Drops it where it is there or there is no memory.
+    #[tactic(auto, using(crate::proofs::KeyLaws::pushes, crate::proofs::KeyLaws::weighs))]
+    pub fn put(&mut self, key: Key) -> Result<(), NoMemory>
+        ensures ok { OnOk result (self.new ≡ with_key self.old key) }
+        ensures unchanged { OnErr result (self.new ≡ self.old) }
+    {
+        if self.find(&key).is_some() {
+            return Ok(());
+        }
+        let weight = self.weight.saturating_add(key.weight());
+        push_key(&mut self.items, key)?;
+        self.weight = weight;
+        Ok(())
+    }
+
+    /// The depth as a cell.
+    pub fn depth(&self) -> u32
+        ensures { result ≡ depth (keyset self.now) }
+    {
+        1
+    }
+
     /// An equal keyset.
-    pub(crate) fn copy(&self, alloc: Global) -> Result<KeysetVal, NoMemory>
+    pub(crate) fn copy(&self) -> Result<KeysetVal, NoMemory>
         ensures { IfOk result (λ k. k ≡ self.now) }
     {
-        let items = copy_keys(alloc, self.items.as_slice())?;
-        Ok(KeysetVal { items })
+        let items = copy_keys(&self.items)?;
+        Ok(KeysetVal {
+            items,
+            weight: self.weight,
+        })
+    }
+}
+
+// What the other keys weigh, once one is gone.
+fn weight_without(others: &[Key], all: u32, gone: &Key) -> u32
+    requires { all ≡ capped (1 + (keys_weight others.now + key_weight gone.now)) }
+    ensures { result ≡ capped (1 + keys_weight others.now) }
+{
+    if all == u32::MAX {
+        keys_weight_of(others, 1)
+    } else {
+        all - gone.weight()
     }
 }

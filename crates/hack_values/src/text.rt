@@ -1,21 +1,29 @@
-ghost use Rattle.std.specs.Prelude.{◌≡◌, ◌++◌, IfOk, OnOk, OnErr};
+ghost use Rattle.std.specs.Prelude.{◌≡◌, ◌++◌, IfOk, OnOk, OnErr, nat_eq};
+ghost use Rattle.std.specs.Hash as fed;
+ghost use Rattle.std.specs.Cmp.Lexicographic.{pointwise, nat_list_eq_equiv};
+ghost use Rattle.std.specs.Cmp.{partial_equiv_from_equiv};
+ghost use Rattle.std.specs.Cmp.Rules.{hashing};
+ghost use Rattle.std.proofs.Common.{rules};
 
 use crate::NoMemory;
-use std::alloc::Global;
+use std::alloc::{AllocError, Global};
+use std::hash::{Hash, Hasher};
 use std::marker::Model;
+use std::sync::Arc;
 
 /// A list of bytes, which need not be UTF-8. It keeps the allocator that it was made with.
 #[derive(Debug, Drop)]
 pub struct Text {
-    buffer: Vec<u8>,
+    shared: Arc<Vec<u8>>,
 }
 
 impl Model for Text {
     ghost use Rattle.std.specs.Prelude.{List, ℕ};
+    ghost use Rattle.std.specs.Arc.{arc_value};
 
     ghost Value = { List ℕ };
 
-    ghost view = { λ t. t.buffer.items };
+    ghost view = { λ t. (arc_value t.shared).items };
 }
 
 impl Text {
@@ -24,29 +32,74 @@ impl Text {
         ensures { IfOk result (λ t. t ≡ bytes.now) }
     {
         let buffer = Vec::from_slice(alloc, bytes)?;
-        Ok(Text { buffer })
+        Ok(Text {
+            shared: Arc::new(alloc, buffer)?,
+        })
     }
 
     /// All its bytes.
     pub fn bytes(&self) -> &[u8]
         ensures { result.now ≡ self.now }
     {
-        self.buffer.as_slice()
+        self.shared.as_slice()
     }
 
-    /// Puts the bytes at the end.
+    /// Puts the bytes at the end: in place, where no other text shares them.
     pub fn append(&mut self, bytes: &[u8]) -> Result<(), NoMemory>
         ensures ok { OnOk result (self.new ≡ self.old ++ bytes.now) }
         ensures err { OnErr result (self.new ≡ self.old) }
     {
-        self.buffer.extend_from_slice(bytes)?;
+        if let Some(buffer) = Arc::get_mut(&mut self.shared) {
+            buffer.extend_from_slice(bytes)?;
+            return Ok(());
+        }
+        let alloc = *self.shared.allocator();
+        let mut buffer = Vec::from_slice(alloc, self.bytes())?;
+        buffer.extend_from_slice(bytes)?;
+        self.shared = Arc::new(alloc, buffer)?;
         Ok(())
     }
 
-    /// An equal text.
-    pub fn copy(&self, alloc: Global) -> Result<Text, NoMemory>
+    /// An equal text, which shares the bytes.
+    pub fn copy(&self, _alloc: Global) -> Result<Text, NoMemory>
         ensures { IfOk result (λ t. t ≡ self.now) }
     {
-        Text::from_bytes(alloc, self.bytes())
+        Ok(Text {
+            shared: self.shared.clone()?,
+        })
+    }
+}
+
+impl Clone for Text {
+    ghost is_clone = { λ t copy. copy ≡ t };
+
+    fn clone(&self) -> Result<Text, AllocError> {
+        Ok(Text {
+            shared: self.shared.clone()?,
+        })
+    }
+}
+
+impl PartialEq for Text {
+    ghost eq = { pointwise nat_eq };
+
+    ghost laws = { partial_equiv_from_equiv nat_list_eq_equiv };
+
+    fn eq(&self, other: &Self) -> bool {
+        self.bytes() == other.bytes()
+    }
+}
+
+impl Eq for Text {
+    ghost laws = { nat_list_eq_equiv };
+}
+
+impl Hash for Text {
+    ghost hash_input = { fed.slice fed.u8 };
+
+    ghost respects_eq = { Prim.search (hashing, rules) };
+
+    fn hash<H: Hasher>(&self, state: &mut H) {
+        self.bytes().hash(state);
     }
 }

@@ -1,5 +1,6 @@
 ghost use Rattle.std.specs.Prelude.{◌≡◌};
 
+use crate::NoMemory;
 use std::alloc::AllocFailed;
 
 /// Why a container refused a value.
@@ -18,6 +19,16 @@ impl<T: Drop> From<AllocFailed<T>> for ValueFault {
     ghost from_gives = { λ _ fault. fault ≡ ValueFault.NoMemory };
 
     fn from(_refusal: AllocFailed<T>) -> ValueFault {
+        ValueFault::NoMemory
+    }
+}
+
+impl From<NoMemory> for ValueFault {
+    ghost use Rattle.hack_values.specs.declared.value_fault.ValueFault.{ValueFault};
+
+    ghost from_gives = { λ _ fault. fault ≡ ValueFault.NoMemory };
+
+    fn from(_refusal: NoMemory) -> ValueFault {
         ValueFault::NoMemory
     }
 }
