@@ -4,3 +4,4 @@ pub mod Digits
 pub mod SameLaws
 pub mod Listing
 pub mod Knowns
+pub mod ObjectRows
