@@ -5,3 +5,4 @@ pub mod SameLaws
 pub mod Listing
 pub mod Knowns
 pub mod Folds
+pub mod ObjectRows

@@ -8,6 +8,7 @@ pub mod Limits
 pub mod Same
 pub mod Casts
 pub mod Operations
+pub mod Literal
 pub mod Show
 pub mod Natives
 pub mod Objects

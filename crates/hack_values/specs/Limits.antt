@@ -9,6 +9,10 @@ max_weight = 4194304
 abbrev pub max_depth : ℕ
 max_depth = 64
 
+-- the most bytes of a text
+abbrev pub max_text : ℕ
+max_text = 1048576
+
 abbrev pub IsTooLarge : Val → Type 0
 IsTooLarge v = max_weight < weight v
 

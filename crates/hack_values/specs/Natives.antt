@@ -4,7 +4,7 @@ use Rattle.std.specs.Int.{w64, cast_signed, int_min, int_max}
 use Rattle.std.specs.Str.{bytes_eq}
 use Rattle.hack_values.specs.declared.cell.Cell.{Cell}
 use Rattle.hack_values.specs.declared.cell.Cell.TheVariants.{Int, Str, Vec, Dict, Keyset}
-use Rattle.hack_values.specs.Operations.{max_text}
+use Rattle.hack_values.specs.Limits.{max_text}
 
 -- the number of a text's bytes
 abbrev pub strlen_value : List Cell → Option Cell

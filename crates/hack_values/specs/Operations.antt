@@ -12,12 +12,9 @@ use Rattle.hack_values.specs.declared.operators.BinOp.{BinOp}
 use Rattle.hack_values.specs.declared.operators.BinOp.TheVariants.{Add, Sub, Mul, Mod, BitAnd, BitOr, BitXor, Shl, Shr, Concat, Same, NSame, Lt, Lte, Gt, Gte, Cmp}
 use Rattle.hack_values.specs.declared.operators.UnOp.{UnOp}
 use Rattle.hack_values.specs.declared.operators.UnOp.TheVariants.{Not, BitNot, CastBool, CastInt, CastString}
+use Rattle.hack_values.specs.Limits.{max_text}
 use Rattle.hack_values.specs.Same.{is_same}
 use Rattle.hack_values.specs.Casts.{text_of, int_of, truth, order_of}
-
--- the most bytes that Concat makes
-abbrev pub max_text : ℕ
-max_text = 1048576
 
 abbrev pub on_ints : (ℤ → ℤ → Result Cell OpFault) → Cell → Cell → Result Cell OpFault
 on_ints f (Int a) (Int b) = f a b

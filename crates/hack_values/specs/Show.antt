@@ -1,33 +1,13 @@
 -- A value as text.
-use Rattle.std.specs.Prelude.{ℕ, ◌+◌, ◌/◌, ◌%◌, ◌==◌, ◌&&◌, nat_lt, nat_le, Bool, true, false, cond, List, [], ◌∷◌, ◌++◌, map, codes, decimal}
-use Rattle.std.specs.List.{flat_map}
+use Rattle.std.specs.Prelude.{ℕ, true, false, List, [], ◌∷◌, ◌++◌, map, codes, decimal}
 use Rattle.std.specs.Fmt.{signed_decimal}
 use Rattle.hack_values.specs.declared.key.Key.{Key}
 use Rattle.hack_values.specs.declared.key.Key.TheVariants as key
+use Rattle.hack_values.specs.Literal.{literal}
 use Rattle.hack_values.specs.Val.{Val, Vals, Pairs}
 use Rattle.hack_values.specs.Val.Val.{null, bool, int, str, vec, dict, keyset, obj}
 use Rattle.hack_values.specs.Val.Vals.{none, more}
 use Rattle.hack_values.specs.Val.Pairs.{no_pair, pair}
-
--- a hexadecimal digit, in lower case
-abbrev pub hex_digit : ℕ → ℕ
-hex_digit n = cond (nat_lt n 10) (48 + n) (87 + n)
-
--- the bytes 32 to 126
-abbrev pub is_printable : ℕ → Bool
-is_printable b = nat_le 32 b && nat_le b 126
-
--- a byte within a string literal: `\n`, `\"`, `\\`, itself where it is printable, or `\x` and two hexadecimal digits
-abbrev pub literal_byte : ℕ → List ℕ
-literal_byte b =
-    cond (b == 10) (92 ∷ 110 ∷ [])
-    (cond (b == 34) (92 ∷ 34 ∷ [])
-    (cond (b == 92) (92 ∷ 92 ∷ [])
-    (cond (is_printable b) (b ∷ []) (92 ∷ 120 ∷ hex_digit (b / 16) ∷ hex_digit (b % 16) ∷ []))))
-
--- a string literal
-abbrev pub literal : List ℕ → List ℕ
-literal s = 34 ∷ (flat_map literal_byte s ++ 34 ∷ [])
 
 abbrev pub show_key : Key → List ℕ
 show_key (key.Int n) = signed_decimal n

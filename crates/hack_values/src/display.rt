@@ -1,11 +1,10 @@
-ghost use Rattle.std.specs.Prelude.{◌≡◌, ◌++◌, ◌<◌, OnOk, IfOk, codes, decimal};
-ghost use Rattle.hack_values.specs.Show.{show_val, show_key, literal, literal_byte, hex_digit, bracketed};
+ghost use Rattle.std.specs.Prelude.{◌≡◌, ◌++◌, OnOk, IfOk, codes, decimal};
+ghost use Rattle.hack_values.specs.Show.{show_val, show_key};
 ghost use Rattle.hack_values.specs.Val.{from_list, from_pairs};
 ghost use Rattle.hack_values.specs.Val.Val.{vec, dict, keyset};
 ghost use Rattle.hack_values.specs.View.{val_of};
 
-use crate::{Cell, DictVal, Key, KeysetVal, NoMemory, Text, VecVal};
-use itoa::Buffer;
+use crate::{Cell, DictVal, IntDigits, Key, KeysetVal, NoMemory, Text, VecVal, push_literal};
 use std::alloc::Global;
 
 /// The value as text, as the program prints it: `vec[1, "a"]`, `dict[1 => null]`, `object #0`.
@@ -26,8 +25,8 @@ fn show_cell(cell: &Cell, out: &mut Text) -> Result<(), NoMemory>
         Cell::Null => out.append(b"null"),
         Cell::Bool(true) => out.append(b"true"),
         Cell::Bool(false) => out.append(b"false"),
-        Cell::Int(number) => out.append(Buffer::new().format(*number).as_bytes()),
-        Cell::Str(text) => show_literal(text.bytes(), out),
+        Cell::Int(number) => out.append(IntDigits::new().format(*number).as_bytes()),
+        Cell::Str(text) => push_literal(out, text.bytes()),
         Cell::Vec(cells) => show_vec(cells, out),
         Cell::Dict(entries) => show_dict(entries, out),
         Cell::Keyset(keys) => show_keyset(keys, out),
@@ -39,48 +38,15 @@ fn show_object(number: u32, out: &mut Text) -> Result<(), NoMemory>
     ensures { OnOk result (out.new ≡ out.old ++ (codes "object #" ++ decimal number)) }
 {
     out.append(b"object #")?;
-    out.append(Buffer::new().format(number).as_bytes())
-}
-
-fn show_literal(bytes: &[u8], out: &mut Text) -> Result<(), NoMemory>
-    ensures { OnOk result (out.new ≡ out.old ++ literal bytes.now) }
-{
-    out.append(b"\"")?;
-    for byte in bytes {
-        show_byte(*byte, out)?;
-    }
-    out.append(b"\"")
-}
-
-fn show_byte(byte: u8, out: &mut Text) -> Result<(), NoMemory>
-    ensures { OnOk result (out.new ≡ out.old ++ literal_byte byte) }
-{
-    match byte {
-        b'\n' => out.append(b"\\n"),
-        b'"' => out.append(b"\\\""),
-        b'\\' => out.append(b"\\\\"),
-        32..=126 => out.append(&[byte]),
-        _ => out.append(&[b'\\', b'x', digit_of(byte / 16), digit_of(byte % 16)]),
-    }
-}
-
-fn digit_of(number: u8) -> u8
-    requires { number < 16 }
-    ensures { result ≡ hex_digit number }
-{
-    if number < 10 {
-        b'0' + number
-    } else {
-        b'a' - 10 + number
-    }
+    out.append(IntDigits::new().format(number).as_bytes())
 }
 
 fn show_key_into(key: &Key, out: &mut Text) -> Result<(), NoMemory>
     ensures { OnOk result (out.new ≡ out.old ++ show_key key.now) }
 {
     match key {
-        Key::Int(number) => out.append(Buffer::new().format(*number).as_bytes()),
-        Key::Str(text) => show_literal(text.bytes(), out),
+        Key::Int(number) => out.append(IntDigits::new().format(*number).as_bytes()),
+        Key::Str(text) => push_literal(out, text.bytes()),
     }
 }
 

@@ -2,9 +2,8 @@ ghost use Rattle.std.specs.Prelude.{◌≡◌, ◌≢◌, IsTrue, Some};
 ghost use Rattle.hack_values.specs.Operations.{op1, op2, compares, sign_of, joined, IsAnswer};
 
 use crate::arithmetic::on_ints;
-use crate::casts::{cast_bytes, cast_int};
-use crate::{Cell, NoMemory, Text, order, same, truthy};
-use itoa::Buffer;
+use crate::casts::cast_int;
+use crate::{Cell, IntDigits, MAX_TEXT, NoMemory, Text, order, same, truthy};
 use std::alloc::Global;
 use std::cmp::Ordering;
 
@@ -62,9 +61,6 @@ pub enum UnOp {
     CastString,
 }
 
-/// The most bytes that `Concat` makes.
-const MAX_TEXT: usize = 1_048_576;
-
 /// The operator's value at two cells, the left one first. Only `Concat` takes memory.
 pub fn binary(alloc: Global, op: BinOp, a: &Cell, b: &Cell) -> Result<Cell, OpFault>
     ensures answer { IsAnswer result (op2 op a.now b.now) }
@@ -112,9 +108,9 @@ fn sign(found: Ordering) -> i64
 fn concat(alloc: Global, a: &Cell, b: &Cell) -> Result<Cell, OpFault>
     ensures { IsAnswer result (op2 BinOp.Concat a.now b.now) }
 {
-    let mut left = Buffer::new();
-    let mut right = Buffer::new();
-    match (cast_bytes(a, &mut left), cast_bytes(b, &mut right)) {
+    let mut left = IntDigits::new();
+    let mut right = IntDigits::new();
+    match (a.text(&mut left), b.text(&mut right)) {
         (Some(first), Some(second)) => join(alloc, first, second),
         _ => Err(OpFault::BadOperand),
     }
@@ -126,9 +122,7 @@ fn join(alloc: Global, first: &[u8], second: &[u8]) -> Result<Cell, OpFault>
     if first.len() > MAX_TEXT || second.len() > MAX_TEXT - first.len() {
         return Err(OpFault::TooLarge);
     }
-    let mut text = Text::from_bytes(alloc, first)?;
-    text.append(second)?;
-    Ok(Cell::Str(text))
+    Ok(Cell::Str(Text::from_two(alloc, first, second)?))
 }
 
 /// The operator's value at a cell. Only `CastString` takes memory.
@@ -147,12 +141,20 @@ pub fn unary(alloc: Global, op: UnOp, a: &Cell) -> Result<Cell, OpFault>
             Some(number) => Ok(Cell::Int(number)),
             None => Err(OpFault::BadOperand),
         },
-        UnOp::CastString => {
-            let mut buffer = Buffer::new();
-            match cast_bytes(a, &mut buffer) {
-                Some(bytes) => Ok(Cell::Str(Text::from_bytes(alloc, bytes)?)),
-                None => Err(OpFault::BadOperand),
-            }
-        }
+        UnOp::CastString => cast_string(alloc, a),
+    }
+}
+
+/// A scalar's text as a cell. A string shares its bytes.
+fn cast_string(alloc: Global, a: &Cell) -> Result<Cell, OpFault>
+    ensures { IsAnswer result (op1 UnOp.CastString a.now) }
+{
+    if let Cell::Str(text) = a {
+        return Ok(Cell::Str(text.copy(alloc)?));
+    }
+    let mut digits = IntDigits::new();
+    match a.text(&mut digits) {
+        Some(bytes) => Ok(Cell::Str(Text::from_bytes(alloc, bytes)?)),
+        None => Err(OpFault::BadOperand),
     }
 }

@@ -11,7 +11,11 @@ use std::hash::{Hash, Hasher};
 use std::marker::Model;
 use std::sync::Arc;
 
-/// A list of bytes, which need not be UTF-8. It keeps the allocator that it was made with.
+/// The most bytes of a string value, which holds for what an operator makes and for a literal. A `Text` has no limit.
+pub const MAX_TEXT: usize = 1_048_576;
+
+/// A list of bytes, which need not be UTF-8. It keeps the allocator that it was made with. Copies share the bytes, and
+/// the one that grows first takes bytes of its own.
 #[derive(Debug, Drop)]
 pub struct Text {
     shared: Arc<Vec<u8>>,
@@ -37,6 +41,18 @@ impl Text {
         })
     }
 
+    /// A copy of the bytes of two, one behind the other.
+    pub(crate) fn from_two(alloc: Global, first: &[u8], second: &[u8]) -> Result<Text, NoMemory>
+        ensures { IfOk result (λ t. t ≡ first.now ++ second.now) }
+    {
+        let mut buffer = Vec::with_capacity(alloc, first.len() + second.len())?;
+        buffer.extend_from_slice(first)?;
+        buffer.extend_from_slice(second)?;
+        Ok(Text {
+            shared: Arc::new(alloc, buffer)?,
+        })
+    }
+
     /// All its bytes.
     pub fn bytes(&self) -> &[u8]
         ensures { result.now ≡ self.now }
@@ -44,7 +60,8 @@ impl Text {
         self.shared.as_slice()
     }
 
-    /// Puts the bytes at the end: in place, where no other text shares them.
+    /// Puts the bytes at the end: in place, where no other text shares what is there. To append bytes one by one takes a
+    /// time that grows with their number.
     pub fn append(&mut self, bytes: &[u8]) -> Result<(), NoMemory>
         ensures ok { OnOk result (self.new ≡ self.old ++ bytes.now) }
         ensures err { OnErr result (self.new ≡ self.old) }
@@ -53,10 +70,7 @@ impl Text {
             buffer.extend_from_slice(bytes)?;
             return Ok(());
         }
-        let alloc = *self.shared.allocator();
-        let mut buffer = Vec::from_slice(alloc, self.bytes())?;
-        buffer.extend_from_slice(bytes)?;
-        self.shared = Arc::new(alloc, buffer)?;
+        *self = Text::from_two(*self.shared.allocator(), self.bytes(), bytes)?;
         Ok(())
     }
 

@@ -34,7 +34,7 @@ impl From<NoMemory> for ValueFault {
 }
 
 /// The greatest weight of a value.
-pub(crate) const MAX_WEIGHT: u32 = 4_194_304;
+pub const MAX_WEIGHT: u32 = 4_194_304;
 
 /// The greatest depth of a value.
-pub(crate) const MAX_DEPTH: u32 = 64;
+pub const MAX_DEPTH: u32 = 64;

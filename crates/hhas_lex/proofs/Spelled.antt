@@ -6,6 +6,7 @@ use Rattle.std.proofs.lemmas.List.{take_at, drop_at}
 use Rattle.std.proofs.lemmas.Bool.{leb-true, le-leb}
 use Rattle.std.proofs.lemmas.Str.Parse.{IsNumeralModel, IsDigitsTest, numerals_by_fold}
 use Rattle.std.proofs.lemmas.Fmt.{decimal_digit, digits_decimal, digits_value-decimal, first_decimal}
+use Rattle.hack_values.specs.Literal.{hex_digit, literal_byte}
 use Rattle.hhas_lex.specs.declared.token.TokenKind.{TokenKind}
 use Rattle.hhas_lex.specs.declared.token.TokenKind.TheVariants as kinds
 use Rattle.hhas_lex.specs.declared.strings.Mode.TheVariants.{Plain, Closed}
@@ -14,7 +15,7 @@ use Rattle.hhas_lex.specs.Fronts.{LongestFront}
 use Rattle.hhas_lex.specs.Shape.{scan, Scanned}
 use Rattle.hhas_lex.specs.Strings.{step, closes, is_closed, value_from, value_of}
 use Rattle.hhas_lex.specs.Tokens.{Token, Directive, Word, Local, Integer, Str, Mark, LessEqual, End, Bad, token_of, token_in, length_in, gap, gap_within, first, past_first, tokens}
-use Rattle.hhas_lex.specs.Spelling.{is_word, is_byte, is_string, is_proper, hex_digit, escaped, spelling, Stops, Apart}
+use Rattle.hhas_lex.specs.Spelling.{is_word, is_byte, is_string, is_proper, spelling, Stops, Apart}
 use Rattle.hhas_lex.proofs.ByteTests.{both, either, at_byte, white_byte, mark_no_word, mark_no_digit, digit_no_word, digit_tests}
 use Rattle.hhas_lex.proofs.Fronts.{split, run_of-yes, run_of-no}
 use Rattle.hhas_lex.proofs.Scanning.{answer, number-first, word_scan, local-scan, directive_scan, suc-not-zero, zero_scan, positive_scan, negative-scan, string-scan, last-mark-scan, mark-scan, other-scan}
@@ -167,30 +168,30 @@ hex-byte b xs h =
     subst (λ z. Stands (92 ∷ 120 ∷ hex_digit (b / 16) ∷ hex_digit (b % 16) ∷ []) z xs) e
     (hex-stands (hex_digit (b / 16)) (hex_digit (b % 16)) xs (Some (b / 16)) (Some (b % 16)) high low refl)
 
-byte-stands : (b : ℕ) (xs : List ℕ) → is_byte b ≡ true → Stands (escaped b) b xs
+byte-stands : (b : ℕ) (xs : List ℕ) → is_byte b ≡ true → Stands (literal_byte b) b xs
 byte-stands b xs h =
-    split (b == 10) (λ e. at_byte (λ c. Stands (escaped c) c xs) b 10 (record { mode = refl; value = refl }) e)
+    split (b == 10) (λ e. at_byte (λ c. Stands (literal_byte c) c xs) b 10 (record { mode = refl; value = refl }) e)
     (λ e1. split (b == 34 || b == 92)
     (λ e. elim (either (b == 34) (b == 92) e) [
-      | inl p ↦ at_byte (λ c. Stands (escaped c) c xs) b 34 (record { mode = refl; value = refl }) p
-      | inr p ↦ at_byte (λ c. Stands (escaped c) c xs) b 92 (record { mode = refl; value = refl }) p
+      | inl p ↦ at_byte (λ c. Stands (literal_byte c) c xs) b 34 (record { mode = refl; value = refl }) p
+      | inr p ↦ at_byte (λ c. Stands (literal_byte c) c xs) b 92 (record { mode = refl; value = refl }) p
     ])
     (λ e2. split (is_plain b)
-    (λ e3. let s : escaped b ≡ b ∷ [] = rw (e1, e2, e3) refl in subst (λ l. Stands l b xs) (sym s) (plain-stands b xs e3 e2))
-    (λ e3. let s : escaped b ≡ 92 ∷ 120 ∷ hex_digit (b / 16) ∷ hex_digit (b % 16) ∷ [] = rw (e1, e2, e3) refl in
+    (λ e3. let s : literal_byte b ≡ b ∷ [] = rw (e1, e2, e3) refl in subst (λ l. Stands l b xs) (sym s) (plain-stands b xs e3 e2))
+    (λ e3. let s : literal_byte b ≡ 92 ∷ 120 ∷ hex_digit (b / 16) ∷ hex_digit (b % 16) ∷ [] = rw (e1, e2, e3) refl in
     subst (λ l. Stands l b xs) (sym s) (hex-byte b xs h))))
 
 record AllStand (s xs : List ℕ) : Type 0 where
-  pub mode : fold step Plain (flat_map escaped s ++ xs) ≡ fold step Plain xs
-  pub value : value_from Plain (flat_map escaped s ++ xs) ≡ s ++ value_from Plain xs
+  pub mode : fold step Plain (flat_map literal_byte s ++ xs) ≡ fold step Plain xs
+  pub value : value_from Plain (flat_map literal_byte s ++ xs) ≡ s ++ value_from Plain xs
 
 all-stand : (s xs : List ℕ) → list_all is_byte s ≡ true → AllStand s xs
 all-stand [] xs h = record { mode = refl; value = refl }
 all-stand (b ∷ s) xs h =
     let e = both (is_byte b) (list_all is_byte s) h in
-    let w = byte-stands b (flat_map escaped s ++ xs) e.0 in
+    let w = byte-stands b (flat_map literal_byte s ++ xs) e.0 in
     let r = all-stand s xs e.1 in
-    let g = append_assoc (escaped b) (flat_map escaped s) xs in
+    let g = append_assoc (literal_byte b) (flat_map literal_byte s) xs in
     record {
       mode = ap (fold step Plain) g ∙ w.mode ∙ r.mode;
       value = ap (value_from Plain) g ∙ w.value ∙ ap (λ l. b ∷ l) r.value;
@@ -198,7 +199,7 @@ all-stand (b ∷ s) xs h =
 
 -- the spelling behind the opening quote
 abbrev quoted : List ℕ → List ℕ
-quoted s = flat_map escaped s ++ 34 ∷ []
+quoted s = flat_map literal_byte s ++ 34 ∷ []
 
 quoted-value : (s : List ℕ) → list_all is_byte s ≡ true → value_of (quoted s) ≡ s
 quoted-value s h = (all-stand s (34 ∷ []) h).value ∙ append-nil s

@@ -1,6 +1,7 @@
 -- What the spelling of a token looks like, and the longest token at the front of bytes.
 use Rattle.std.specs.Prelude.{◌≡◌, ◌≢◌, ℕ, zero, suc, ◌<◌, ◌≤◌, ◌^◌, ℤ, pos, negsuc, neg_ℤ, Bool, true, false, ◌&&◌, List, [], ◌∷◌, length, take, drop, Option, Some, None, is_some, nat_lt, nat_le, ◌==◌, if◌then◌else◌}
 use Rattle.std.specs.List.{list_all}
+use Rattle.hack_values.specs.Limits.{max_text}
 use Rattle.hhas_lex.specs.declared.token.TokenKind.{TokenKind}
 use Rattle.hhas_lex.specs.declared.token.TokenKind.TheVariants.{Directive, Word, Local, Integer, Str, Mark, LessEqual, End}
 use Rattle.hhas_lex.specs.Bytes.{is_lower, is_word_start, is_word_byte, is_digit, is_leading_digit, is_mark, is_name, number_of}
@@ -39,7 +40,7 @@ abbrev pub fits : TokenKind → List ℕ → Bool
 fits Word bytes = nat_le (length bytes) 100
 fits Local bytes = nat_le (length (drop 1 bytes)) 100
 fits (Integer i) bytes = is_int64 i
-fits Str bytes = nat_le (length (value_of (drop 1 bytes))) 1048576
+fits Str bytes = nat_le (length (value_of (drop 1 bytes))) max_text
 fits Directive bytes = true
 fits (Mark b) bytes = true
 fits LessEqual bytes = true

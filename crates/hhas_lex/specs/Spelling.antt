@@ -1,8 +1,10 @@
 -- The canonical spelling of a token, and what may follow it.
-use Rattle.std.specs.Prelude.{◌≡◌, ℕ, ◌+◌, ◌/◌, ◌%◌, Bool, true, false, not, ◌||◌, ◌&&◌, ◌==◌, List, [], ◌∷◌, ◌++◌, length, nat_le, nat_lt, if◌then◌else◌}
-use Rattle.std.specs.List.{list_all, flat_map}
+use Rattle.std.specs.Prelude.{◌≡◌, ℕ, Bool, true, false, not, ◌&&◌, ◌==◌, List, [], ◌∷◌, length, nat_le, nat_lt}
+use Rattle.std.specs.List.{list_all}
 use Rattle.std.specs.Fmt.{signed_decimal}
-use Rattle.hhas_lex.specs.Bytes.{is_lower, is_word_start, is_word_byte, is_digit, is_mark, is_plain, is_name}
+use Rattle.hack_values.specs.Limits.{max_text}
+use Rattle.hack_values.specs.Literal.{literal}
+use Rattle.hhas_lex.specs.Bytes.{is_lower, is_word_start, is_word_byte, is_digit, is_mark, is_name}
 use Rattle.hhas_lex.specs.Shape.{is_int64}
 use Rattle.hhas_lex.specs.Tokens.{Token, Directive, Word, Local, Integer, Str, Mark, LessEqual, End, Bad}
 
@@ -13,7 +15,7 @@ abbrev pub is_byte : ℕ → Bool
 is_byte b = nat_lt b 256
 
 abbrev pub is_string : List ℕ → Bool
-is_string bytes = list_all is_byte bytes && nat_le (length bytes) 1048576
+is_string bytes = list_all is_byte bytes && nat_le (length bytes) max_text
 
 -- a token that stands in a text, before its end
 abbrev pub is_proper : Token → Bool
@@ -27,24 +29,12 @@ is_proper LessEqual = true
 is_proper End = false
 is_proper Bad = false
 
--- a hexadecimal digit of lower case
-abbrev pub hex_digit : ℕ → ℕ
-hex_digit d = if nat_lt d 10 then 48 + d else 87 + d
-
--- how a byte of a value stands in a string
-abbrev pub escaped : ℕ → List ℕ
-escaped b =
-    if b == 10 then 92 ∷ 110 ∷ []
-    else if b == 34 || b == 92 then 92 ∷ b ∷ []
-    else if is_plain b then b ∷ []
-    else 92 ∷ 120 ∷ hex_digit (b / 16) ∷ hex_digit (b % 16) ∷ []
-
 abbrev pub spelling : Token → List ℕ
 spelling (Directive letters) = 46 ∷ letters
 spelling (Word bytes) = bytes
 spelling (Local bytes) = 36 ∷ bytes
 spelling (Integer i) = signed_decimal i
-spelling (Str bytes) = 34 ∷ (flat_map escaped bytes ++ 34 ∷ [])
+spelling (Str bytes) = literal bytes
 spelling (Mark b) = b ∷ []
 spelling LessEqual = 60 ∷ 61 ∷ []
 spelling End = []

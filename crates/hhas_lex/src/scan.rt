@@ -7,12 +7,10 @@ ghost use Rattle.hhas_lex.specs.Shape as shape;
 use crate::bytes::{digits, is_digit, is_mark, is_word_start, lowers, word_bytes};
 use crate::strings::quoted;
 use crate::token::TokenKind;
+use hack_values::MAX_TEXT;
 
 /// How many bytes a word has at most.
 const WORD_LIMIT: usize = 100;
-
-/// How many bytes the value of a string has at most.
-const STRING_LIMIT: usize = 1_048_576;
 
 /// The token at the front of bytes that no white space and no comment begins, and the length of its spelling.
 #[tactic(auto, using(crate::proofs::Scanning::end_scan, crate::proofs::Scanning::other_scan))]
@@ -158,7 +156,7 @@ fn string(rest: &[u8]) -> Option<(TokenKind, usize)>
     ensures value { result ≡ shape.scan (34 ∷ rest.now) }
 {
     let (count, size) = quoted(rest)?;
-    if size > STRING_LIMIT {
+    if size > MAX_TEXT {
         return None;
     }
     Some((TokenKind::Str, 1 + count))

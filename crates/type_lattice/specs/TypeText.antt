@@ -1,7 +1,8 @@
 -- The canonical text of a type.
-use Rattle.std.specs.Prelude.{ℕ, Bool, true, false, List, [], ◌∷◌, ◌++◌, Option, Some, None, slice_get, codes, nat_le, ◌==◌, ◌||◌, ◌&&◌, ◌/◌, ◌%◌, ◌+◌, if◌then◌else◌}
+use Rattle.std.specs.Prelude.{ℕ, Bool, true, false, List, [], ◌∷◌, ◌++◌, Option, Some, None, slice_get, codes, if◌then◌else◌}
 use Rattle.std.specs.List.{flat_map}
 use Rattle.std.specs.Fmt.{signed_decimal}
+use Rattle.hack_values.specs.Literal.{literal}
 use Rattle.type_lattice.specs.declared.types.IntPart.{IntPart}
 use Rattle.type_lattice.specs.declared.types.IntPart.TheVariants as ints
 use Rattle.type_lattice.specs.declared.types.StrPart.{StrPart}
@@ -12,22 +13,6 @@ use Rattle.type_lattice.specs.declared.types.Leaf.{Leaf}
 use Rattle.type_lattice.specs.declared.types.HType.{HType}
 use Rattle.type_lattice.specs.Types.{short_bytes}
 use Rattle.type_lattice.specs.Whole.{whole_leaf, whole_key, whole_entry, is_whole}
-
--- a digit of base 16, in lower case
-abbrev pub hex_digit : ℕ → ℕ
-hex_digit d = if nat_le d 9 then 48 + d else 87 + d
-
--- a byte in a string literal: a line feed, a quote and a backslash are escaped, and so is what isn't printed
-unfoldable pub escaped : ℕ → List ℕ
-escaped b =
-    if b == 10 then 92 ∷ 110 ∷ []
-    else if b == 34 || b == 92 then 92 ∷ b ∷ []
-    else if nat_le 32 b && nat_le b 126 then b ∷ []
-    else 92 ∷ 120 ∷ hex_digit (b / 16) ∷ hex_digit (b % 16) ∷ []
-
--- a string literal
-abbrev pub quoted : List ℕ → List ℕ
-quoted s = 34 ∷ (flat_map escaped s ++ 34 ∷ [])
 
 -- an atom, where it is there
 abbrev pub atom : Bool → List ℕ → List (List ℕ)
@@ -47,7 +32,7 @@ int_atoms ints.Any = codes "Int" ∷ []
 
 abbrev pub str_atoms : StrPart → List (List ℕ)
 str_atoms strs.No = []
-str_atoms (strs.One s) = (codes "Str=" ++ quoted (short_bytes s)) ∷ []
+str_atoms (strs.One s) = (codes "Str=" ++ literal (short_bytes s)) ∷ []
 str_atoms strs.Any = codes "Str" ∷ []
 
 abbrev pub named : Option (List ℕ) → List ℕ

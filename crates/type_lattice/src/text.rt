@@ -1,58 +1,13 @@
 //! The canonical text of a type.
 
-ghost use Rattle.std.specs.Prelude.{◌≡◌, ◌++◌, [], ◌∷◌, ◌<◌, ◌&&◌, IfOk, OnOk, codes, length, if◌then◌else◌};
+ghost use Rattle.std.specs.Prelude.{◌≡◌, ◌++◌, [], ◌∷◌, IfOk, OnOk};
 ghost use Rattle.std.specs.List.{flat_map};
-ghost use Rattle.std.specs.Fmt.{signed_decimal};
 ghost use Rattle.type_lattice.specs.TypeText as text;
 ghost use Rattle.type_lattice.specs.Whole as whole;
 
 use crate::types::{HType, IntPart, Leaf, ObjPart, Short, StrPart};
-use hack_values::{NoMemory, Seq, Text};
+use hack_values::{NoMemory, Seq, Text, push_literal};
 use std::alloc::Global;
-
-fn hex_digit(digit: u8) -> u8
-    requires { digit < 16 }
-    ensures { result ≡ text.hex_digit digit }
-{
-    if digit <= 9 {
-        b'0' + digit
-    } else {
-        b'a' - 10 + digit
-    }
-}
-
-/// Adds a byte as a string literal spells it.
-#[tactic(auto, unfolding(crate::specs::TypeText::escaped))]
-fn push_escaped(out: &mut Text, byte: u8) -> Result<(), NoMemory>
-    ensures { OnOk result (out.new ≡ out.old ++ text.escaped byte) }
-{
-    if byte == b'\n' {
-        out.append(&[b'\\', b'n'])
-    } else if byte == b'"' || byte == b'\\' {
-        out.append(&[b'\\', byte])
-    } else if 32 <= byte && byte <= 126 {
-        out.append(&[byte])
-    } else {
-        out.append(&[b'\\', b'x', hex_digit(byte / 16), hex_digit(byte % 16)])
-    }
-}
-
-fn push_all_escaped(out: &mut Text, bytes: &[u8]) -> Result<(), NoMemory>
-    ensures { OnOk result (out.new ≡ out.old ++ flat_map text.escaped bytes.now) }
-{
-    for byte in bytes {
-        push_escaped(out, *byte)?;
-    }
-    Ok(())
-}
-
-fn push_quoted(out: &mut Text, bytes: &[u8]) -> Result<(), NoMemory>
-    ensures { OnOk result (out.new ≡ out.old ++ text.quoted bytes.now) }
-{
-    out.append(&[b'"'])?;
-    push_all_escaped(out, bytes)?;
-    out.append(&[b'"'])
-}
 
 /// Adds an atom where it is there.
 fn put(alloc: Global, atoms: &mut Seq<Text>, there: bool, name: &[u8]) -> Result<(), NoMemory>
@@ -97,7 +52,7 @@ fn put_str(alloc: Global, atoms: &mut Seq<Text>, part: &StrPart) -> Result<(), N
         StrPart::No => Ok(()),
         StrPart::One(short) => {
             let mut atom = Text::from_bytes(alloc, b"Str=")?;
-            push_quoted(&mut atom, short.as_bytes())?;
+            push_literal(&mut atom, short.as_bytes())?;
             atoms.push(atom)
         }
         StrPart::Any => put(alloc, atoms, true, b"Str"),

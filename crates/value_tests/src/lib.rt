@@ -2,6 +2,8 @@
 #![tactic(auto)]
 
 #[cfg(test)]
+mod scalars;
+#[cfg(test)]
 mod streams;
 #[cfg(test)]
 mod values;
