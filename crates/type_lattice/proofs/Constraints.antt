@@ -62,17 +62,17 @@ kind_obj (objs.Exact c) h = absurd h
 kind_obj (objs.Sub c) h = refl
 kind_obj objs.Any h = refl
 
-ints_any : (p : IntPart) → all_ints p ≡ true → p ≡ ints.Any
+pub ints_any : (p : IntPart) → all_ints p ≡ true → p ≡ ints.Any
 ints_any ints.No h = absurd (cc)
 ints_any (ints.One i) h = absurd (cc)
 ints_any ints.Any h = refl
 
-strs_any : (p : StrPart) → all_strs p ≡ true → p ≡ strs.Any
+pub strs_any : (p : StrPart) → all_strs p ≡ true → p ≡ strs.Any
 strs_any strs.No h = absurd (cc)
 strs_any (strs.One i) h = absurd (cc)
 strs_any strs.Any h = refl
 
-objs_any : (p : ObjPart) → all_objs p ≡ true → p ≡ objs.Any
+pub objs_any : (p : ObjPart) → all_objs p ≡ true → p ≡ objs.Any
 objs_any objs.No h = absurd (cc)
 objs_any (objs.Exact c) h = absurd (cc)
 objs_any (objs.Sub c) h = absurd (cc)
