@@ -18,10 +18,10 @@ use Rattle.type_lattice.specs.declared.types.ObjPart.{ObjPart}
 use Rattle.type_lattice.specs.declared.types.ObjPart.TheVariants as objs
 use Rattle.type_lattice.specs.declared.types.Short.{Short}
 use Rattle.type_lattice.specs.Types.{short_bytes, str_part}
+use Rattle.type_lattice.specs.InRange.{short_in_range, int_in_range, str_in_range}
 use Rattle.hhbc_repo.specs.CanonicalText.{barred}
 use Rattle.hhbc_repo.specs.Languages.{Lang, Separated}
 use Rattle.hhbc_repo.specs.LinkFaults.{Name}
-use Rattle.hhbc_repo.specs.TypeFits.{short_in_range, int_in_range, str_in_range}
 use Rattle.hhbc_repo.specs.TypeSyntax.{Atom, Null, False, True, Bools, Int, OneInt, Str, OneStr, Obj, Exact, Sub, Vec, Dict, Keyset, AnAtom, atom_tokens, line, Ascend, atom_classes}
 use Rattle.hhbc_repo.specs.WrittenTypes.{atom, bool_atoms, int_atoms, str_atoms, obj_atoms}
 use Rattle.hhbc_repo.specs.WrittenTypes as written

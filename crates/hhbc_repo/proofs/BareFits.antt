@@ -3,6 +3,7 @@ use Rattle.std.proofs.Common.{◌≡◌, Bool, true, false, ◌&&◌, nat_le, Li
 use Rattle.std.specs.List.{list_all}
 use Rattle.std.proofs.lemmas.Bool.{and_from, and_parts}
 use Rattle.hhas_lex.specs.Spelling.{is_word}
+use Rattle.type_lattice.specs.InRange.{where_there}
 use Rattle.hhbc_repo.specs.declared.parts.BodyParts.{BodyParts}
 use Rattle.hhbc_repo.specs.declared.parts.ClassParts.{ClassParts}
 use Rattle.hhbc_repo.specs.declared.parts.ItemParts.{ItemParts}
@@ -11,7 +12,7 @@ use Rattle.hhbc_repo.specs.declared.parts.PositionParts.{PositionParts}
 use Rattle.hhbc_repo.specs.declared.parts.PropertyParts.{PropertyParts}
 use Rattle.hhbc_repo.specs.Fits.{is_label, code_fits, assert_fits, position_fits, item_fits, body_fits, const_fits, initial_fits, property_fits, class_fits, parts_fit}
 use Rattle.hhbc_repo.specs.LinkFaults.{Whole, position_in, positions_of}
-use Rattle.hhbc_repo.specs.TypeFits.{type_fits, where_there}
+use Rattle.hhbc_repo.specs.TypeFits.{type_fits}
 use Rattle.hhbc_repo.proofs.BareWholes.{bare_item, bare_parts, bare_property_parts, bare_class_parts, bare_whole, nests_bare}
 use Rattle.hhbc_repo.proofs.PartsThatFit.{body_facts, class_facts}
 

@@ -6,6 +6,7 @@ use Rattle.hhas_lex.specs.Shape.{is_int64}
 use Rattle.hhas_lex.specs.Spaced.{Spaced}
 use Rattle.hhas_lex.specs.Spelling.{is_proper, is_word}
 use Rattle.hhas_lex.specs.Tokens.{Token, Directive, Word, Local, Integer, Mark}
+use Rattle.type_lattice.specs.InRange.{where_there}
 use Rattle.hhbc_repo.specs.declared.parts.BodyParts.{BodyParts}
 use Rattle.hhbc_repo.specs.declared.parts.ItemParts.{ItemParts}
 use Rattle.hhbc_repo.specs.declared.parts.ItemParts.TheVariants as items
@@ -15,7 +16,7 @@ use Rattle.hhbc_repo.specs.Languages.{Behind, Ended, Perhaps, Separated}
 use Rattle.hhbc_repo.specs.TypeSyntax.{AType}
 use Rattle.hhbc_repo.specs.CodeSyntax.{ALocal, is_reserved}
 use Rattle.hhbc_repo.specs.BodySyntax.{Params, Declared, Iterators, ABody}
-use Rattle.hhbc_repo.specs.TypeFits.{type_fits, where_there}
+use Rattle.hhbc_repo.specs.TypeFits.{type_fits}
 use Rattle.hhbc_repo.specs.Fits.{is_label, position_fits, item_fits, body_fits}
 use Rattle.hhbc_repo.specs.CanonicalText.{line, spaced, tight, outer, type_pieces, position_pieces, item_pieces, more_local, params_pieces, stated_pieces, locals_pieces, iters_pieces, body_pieces}
 use Rattle.hhbc_repo.proofs.Clearing.{tokens_in}

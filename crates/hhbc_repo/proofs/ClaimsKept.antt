@@ -7,6 +7,7 @@ use Rattle.std.proofs.lemmas.List.{take-append-drop}
 use Rattle.std.proofs.lemmas.Simd.{map-map}
 use Rattle.hhas_lex.specs.Spelling.{is_word}
 use Rattle.type_lattice.specs.declared.types.HType.{HType}
+use Rattle.type_lattice.specs.InRange.{where_there, is_proper}
 use Rattle.hhbc_repo.specs.declared.body.Assert.{Assert}
 use Rattle.hhbc_repo.specs.declared.body.Assert.TheVariants as asserts
 use Rattle.hhbc_repo.specs.declared.body.Body.{Body}
@@ -29,8 +30,8 @@ use Rattle.hhbc_repo.specs.LinkFaults.{Name, Whole, Place, place_in, as_it_is, d
 use Rattle.hhbc_repo.specs.Names.{distinct}
 use Rattle.hhbc_repo.specs.Resolved.{or_zero, local_number, resolved_type, resolved_assert, resolved_position, resolved_body, resolved_property, resolved_class, resolved, LinksTo}
 use Rattle.hhbc_repo.specs.Spelled.{HasSpelling}
-use Rattle.hhbc_repo.specs.TypeFits.{type_fits, where_there}
-use Rattle.hhbc_repo.specs.Within.{Bounds, bounds_of, local_within, type_within, assert_within}
+use Rattle.hhbc_repo.specs.TypeFits.{type_fits}
+use Rattle.hhbc_repo.specs.Within.{Bounds, bounds_of, local_within, assert_within}
 use Rattle.hhbc_repo.specs.WrittenTypes.{canonical_type}
 use Rattle.hhbc_repo.proofs.AlikeWholes.{place, places_called, of_class}
 use Rattle.hhbc_repo.proofs.BareFaults.{asserts_faults, ClaimsPass, BodiesClaimsPass, properties_faults, ClassesClaimsPass, faults_bare, all_claims}
@@ -72,12 +73,12 @@ module _ (w : Whole) (all : List Name) (called : class_names w ≡ all) (words :
   abbrev typed : HType → TypeParts
   typed t = canonical_type all t
 
-  type_kept : (owner : Name) (t : HType) → type_within (length all) t ≡ true → (type_faults w owner (typed t) ≡ []) × (resolved_type w (typed t) ≡ t)
+  type_kept : (owner : Name) (t : HType) → is_proper (length all) t ≡ true → (type_faults w owner (typed t) ≡ []) × (resolved_type w (typed t) ≡ t)
   type_kept owner t h =
-      subst (λ (l : List Name). distinct l ≡ true → type_within (length l) t ≡ true → (type_faults w owner (canonical_type l t) ≡ []) × (resolved_type w (canonical_type l t) ≡ t)) called
+      subst (λ (l : List Name). distinct l ≡ true → is_proper (length l) t ≡ true → (type_faults w owner (canonical_type l t) ≡ []) × (resolved_type w (canonical_type l t) ≡ t)) called
       (λ d k. type_forth w d owner t k) apart h
 
-  stated_kept : (owner : Name) (o : Option HType) → where_there (type_within (length all)) o ≡ true
+  stated_kept : (owner : Name) (o : Option HType) → where_there (is_proper (length all)) o ≡ true
       → (where_there type_fits (option_map typed o) ≡ true) × (stated_faults w owner (option_map typed o) ≡ []) × (option_map (resolved_type w) (option_map typed o) ≡ o)
   stated_kept owner None h = (refl, refl, refl)
   stated_kept owner (Some t) h = let k = type_kept owner t h in (type_canonical_fits all t words h, k.0, ap (λ (u : HType). Some u) k.1)
@@ -104,7 +105,7 @@ module _ (w : Whole) (all : List Name) (called : class_names w ≡ all) (words :
     assert_kept : (a : Assert) → assert_within bounds a ≡ true
         → (assert_fits (canonical_assert all b a) ≡ true) × (assert_faults here (canonical_assert all b a) ≡ []) × (resolved_assert w made (canonical_assert all b a) ≡ a)
     assert_kept (asserts.Local l t) h =
-        let p = and_parts (local_within bounds l) (type_within (length all) t) h in
+        let p = and_parts (local_within bounds l) (is_proper (length all) t) h in
         let k = local_kept l p.0 in
         let u = type_kept owner t p.1 in (
           and_from (is_word (local_name b l)) (type_fits (typed t)) k.0 (type_canonical_fits all t words p.1),
@@ -112,7 +113,7 @@ module _ (w : Whole) (all : List Name) (called : class_names w ≡ all) (words :
           ap₂ (λ (n : ℕ) (v : HType). asserts.Local n v) k.2 u.1,
         )
     assert_kept (asserts.Stack n t) h =
-        let p = and_parts (is_index n) (type_within (length all) t) h in
+        let p = and_parts (is_index n) (is_proper (length all) t) h in
         let u = type_kept owner t p.1 in
         (and_from (is_index n) (type_fits (typed t)) p.0 (type_canonical_fits all t words p.1), u.0, ap (λ (v : HType). asserts.Stack n v) u.1)
 
@@ -150,7 +151,7 @@ module _ (w : Whole) (all : List Name) (called : class_names w ≡ all) (words :
 
     body_kept : body_claims_within (length all) b ≡ true → bare_body b ≡ bare_body (resolved_body w made) → BodyKept w all b owner
     body_kept h e =
-        let p = and_parts (where_there (type_within (length all)) b.stated) (list_all (position_claims_within bounds) b.positions) h in
+        let p = and_parts (where_there (is_proper (length all)) b.stated) (list_all (position_claims_within bounds) b.positions) h in
         let listed : positions_of made ≡ map (canonical_position all b) b.positions = positions_back all b in
         let linked : (resolved_body w made).positions ≡ map (resolved_position w made) (map (canonical_position all b) b.positions) =
         linked_positions w made made.items ∙ ap (map (resolved_position w made)) listed in

@@ -6,6 +6,7 @@ use Rattle.std.proofs.lemmas.Grind.{flat_map-append}
 use Rattle.hhas_lex.specs.Spelling.{is_word}
 use Rattle.type_lattice.specs.Classes.{chain, has}
 use Rattle.type_lattice.specs.TypeText.{named, class_name}
+use Rattle.type_lattice.specs.InRange.{where_there}
 use Rattle.hhbc_repo.specs.declared.link_fault.LinkKind.TheVariants as reasons
 use Rattle.hhbc_repo.specs.declared.parts.BodyParts.{BodyParts}
 use Rattle.hhbc_repo.specs.declared.parts.ClassParts.{ClassParts}
@@ -16,7 +17,7 @@ use Rattle.hhbc_repo.specs.Canonical.{canonical_body, canonical_property, canoni
 use Rattle.hhbc_repo.specs.Fits.{body_fits, property_fits, initial_fits, class_fits}
 use Rattle.hhbc_repo.specs.LinkFaults.{Name, Whole, names, as_it_is, check, class_names, class_of, parent_in, parents, ancestors, different, properties, along, differ_from, stated_faults, parent_faults, body_faults, method_places, class_checks, property_checks, member_checks, each_class}
 use Rattle.hhbc_repo.specs.Resolved.{resolved_body, resolved_property, resolved_class}
-use Rattle.hhbc_repo.specs.TypeFits.{type_fits, where_there}
+use Rattle.hhbc_repo.specs.TypeFits.{type_fits}
 use Rattle.hhbc_repo.proofs.AlikeWholes.{place, places_called, of_class, parent_same, type_same}
 use Rattle.hhbc_repo.proofs.BodiesBack.{BodyBack, body_back}
 use Rattle.hhbc_repo.proofs.TypesBack.{name_at_place, stated_back}

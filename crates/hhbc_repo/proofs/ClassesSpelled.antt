@@ -8,6 +8,7 @@ use Rattle.hhas_lex.specs.Spelling.{is_proper, is_word}
 use Rattle.hhas_lex.specs.Tokens.{Directive, Word, Mark}
 use Rattle.hack_values.specs.declared.cell.Cell.{Cell}
 use Rattle.hack_values.specs.declared.cell.Cell.TheVariants as cells
+use Rattle.type_lattice.specs.InRange.{where_there}
 use Rattle.hhbc_repo.specs.declared.repo.Const.{Const}
 use Rattle.hhbc_repo.specs.declared.parts.BodyParts.{BodyParts}
 use Rattle.hhbc_repo.specs.declared.parts.ClassParts.{ClassParts}
@@ -16,7 +17,7 @@ use Rattle.hhbc_repo.specs.LinkFaults.{Name}
 use Rattle.hhbc_repo.specs.Languages.{Behind, Many, Perhaps}
 use Rattle.hhbc_repo.specs.CodeSyntax.{AWord}
 use Rattle.hhbc_repo.specs.TextSyntax.{AScalar, AnInitial, AConst, AProperty, Member, AsConst, AsProperty, AsMethod, AMember, consts_of, props_of, methods_of, AClass}
-use Rattle.hhbc_repo.specs.TypeFits.{type_fits, where_there}
+use Rattle.hhbc_repo.specs.TypeFits.{type_fits}
 use Rattle.hhbc_repo.specs.Fits.{body_fits, scalar_fits, initial_fits, const_fits, property_fits, class_fits}
 use Rattle.hhbc_repo.specs.CanonicalText.{line, spaced, tight, stated_pieces, cell_token, const_pieces, property_pieces, method_pieces, parent_pieces, member_pieces, class_pieces}
 use Rattle.hhbc_repo.proofs.BodiesSpelled.{stated_spelled, stated_clear, body_spelled, body_clear}

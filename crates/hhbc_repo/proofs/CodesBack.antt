@@ -10,6 +10,7 @@ use Rattle.hhbc_ops.specs.declared.words.ImmKind.{ImmKind}
 use Rattle.hhbc_ops.specs.declared.words.ImmKind.TheVariants as kinds
 use Rattle.hhbc_ops.specs.Ops.{kinds_of}
 use Rattle.type_lattice.specs.TypeText.{class_name}
+use Rattle.type_lattice.specs.Keep.{is_constraint}
 use Rattle.hhbc_repo.specs.declared.parts.ArmParts.{ArmParts}
 use Rattle.hhbc_repo.specs.declared.parts.AssertParts.{AssertParts}
 use Rattle.hhbc_repo.specs.declared.parts.AssertParts.TheVariants as claims
@@ -34,7 +35,7 @@ use Rattle.hhbc_repo.specs.CodeSyntax as parts
 use Rattle.hhbc_repo.specs.LinkFaults.{Name, Whole, Place, names, dollar, known, class_names, class_of, locals_of, local_faults, type_faults, key_local, operand_faults, instruction_faults, key_faults, base_faults, last_key, code_faults, assert_faults, position_faults}
 use Rattle.hhbc_repo.specs.Resolved.{local_number, class_number, resolved_arm, resolved_operand, resolved_base, resolved_key, resolved_final, resolved_code, resolved_assert, resolved_position, resolved_body}
 use Rattle.hhbc_repo.proofs.Relabelled.{relabelled_arm, relabelled_operand, relabelled_code, relabelled_position, new_label}
-use Rattle.hhbc_repo.specs.TypeFits.{type_fits, is_constraint}
+use Rattle.hhbc_repo.specs.TypeFits.{type_fits}
 use Rattle.hhbc_repo.specs.Fits.{is_index, operand_fits, operands_fit, base_fits, query_key_fits, final_fits, code_fits, assert_fits, position_fits}
 use Rattle.hhbc_repo.proofs.NoFaults.{empty_left, empty_right, passes, constant_class, method_class}
 use Rattle.hhbc_repo.proofs.TypesBack.{name_back, class_back, type_back}

@@ -9,6 +9,8 @@ use Rattle.hhbc_ops.specs.declared.words.ImmKind.{ImmKind}
 use Rattle.hhbc_ops.specs.declared.words.ImmKind.TheVariants as kinds
 use Rattle.hhbc_ops.specs.Ops.{kinds_of, op_name}
 use Rattle.hhbc_ops.specs.Words.{set_op_name, inc_dec_name, is_type_name}
+use Rattle.type_lattice.specs.InRange.{where_there}
+use Rattle.type_lattice.specs.Keep.{is_constraint}
 use Rattle.hhbc_repo.specs.declared.parts.AssertParts.{AssertParts}
 use Rattle.hhbc_repo.specs.declared.parts.AssertParts.TheVariants as claims
 use Rattle.hhbc_repo.specs.declared.parts.CodeParts.{CodeParts}
@@ -17,7 +19,7 @@ use Rattle.hhbc_repo.specs.declared.parts.ImmParts.{ImmParts}
 use Rattle.hhbc_repo.specs.declared.parts.ImmParts.TheVariants as imms
 use Rattle.hhbc_repo.specs.declared.parts.PositionParts.{PositionParts}
 use Rattle.hhbc_repo.specs.CanonicalText.{spaced, type_pieces, is_text_switch, tagged, key_local, operand_pieces, code_pieces, assert_pieces, position_pieces}
-use Rattle.hhbc_repo.specs.TypeFits.{type_fits, is_constraint, where_there}
+use Rattle.hhbc_repo.specs.TypeFits.{type_fits}
 use Rattle.hhbc_repo.specs.Fits.{is_index, operand_fits, operands_fit, code_fits, assert_fits, position_fits}
 use Rattle.hhbc_repo.proofs.ArmsClear.{label_word, arms_proper, text_arms_proper, switch_clear}
 use Rattle.hhbc_repo.proofs.Clearing.{Clear, clear_none, clear_both, clear_each}

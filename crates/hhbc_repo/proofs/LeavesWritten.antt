@@ -1,7 +1,7 @@
 -- The written form of a leaf or key that fits stands for it, and its tokens spell it.
-use Rattle.std.proofs.Common.{◌≡◌, ℕ, ◌+◌, Bool, true, false, not, if◌then◌else◌, List, [], ◌∷◌, ◌++◌, map, length, refl, sym, ap, ap₂, ◌∙◌, arith, length-append}
+use Rattle.std.proofs.Common.{◌≡◌, ℕ, ◌+◌, Bool, true, false, if◌then◌else◌, List, [], ◌∷◌, ◌++◌, map, length, refl, sym, ap, ap₂, ◌∙◌, arith, length-append}
 use Rattle.std.specs.List.{list_all, flat_map}
-use Rattle.std.proofs.lemmas.Bool.{and_parts, not-true}
+use Rattle.std.proofs.lemmas.Bool.{and_parts}
 use Rattle.std.proofs.lemmas.List.{append-nil}
 use Rattle.hhas_lex.specs.Spelling.{is_word}
 use Rattle.type_lattice.specs.declared.types.IntPart.{IntPart}
@@ -11,13 +11,14 @@ use Rattle.type_lattice.specs.declared.types.StrPart.TheVariants as strs
 use Rattle.type_lattice.specs.declared.types.ObjPart.{ObjPart}
 use Rattle.type_lattice.specs.declared.types.ObjPart.TheVariants as objs
 use Rattle.type_lattice.specs.declared.types.Leaf.{Leaf}
-use Rattle.type_lattice.specs.Types.{never_leaf, cell_leaf, key_leaf}
-use Rattle.type_lattice.specs.Never.{no_objs}
-use Rattle.type_lattice.specs.Whole.{all_ints, all_strs, all_objs, whole_leaf, whole_key}
+use Rattle.type_lattice.specs.Types.{never_leaf, key_leaf}
+use Rattle.type_lattice.specs.Whole.{all_ints, all_strs, whole_leaf, whole_key}
+use Rattle.type_lattice.specs.InRange.{int_in_range, str_in_range, leaf_in_range, has_keys_alone, key_in_range, obj_classes}
+use Rattle.type_lattice.proofs.Constraints.{ints_any, strs_any, leaf_is_cell}
+use Rattle.type_lattice.proofs.Ranges.{tested_keys_alone}
 use Rattle.hhbc_repo.specs.Bodies.{numbers}
 use Rattle.hhbc_repo.specs.CanonicalText.{written_tokens}
 use Rattle.hhbc_repo.specs.LinkFaults.{Name}
-use Rattle.hhbc_repo.specs.TypeFits.{int_in_range, str_in_range, leaf_in_range, key_in_range, obj_classes}
 use Rattle.hhbc_repo.specs.TypeSyntax.{Atom, Null, Vec, Dict, Keyset, AnAtom, atom_tokens, line, is_key_atom, Written, Cell, ALeaf, AKeyType, atom_classes, classes_in, leaf_with, leaf_from, leaf_of}
 use Rattle.hhbc_repo.specs.WrittenTypes.{atom, bool_atoms, int_atoms, str_atoms, obj_atoms, kind_atoms, leaf_atoms, written_atoms, written_leaf, written_key}
 use Rattle.hhbc_repo.specs.WrittenTypes as written
@@ -25,51 +26,7 @@ use Rattle.hhbc_repo.proofs.AtomsSpelled.{Segment, segments, switch_segment, boo
 use Rattle.hhbc_repo.proofs.InnerTokens.{Inner, AllInner, inner_word, inner_joined}
 use Rattle.hhbc_repo.proofs.SpelledTypes.{all_both}
 
--- ---- whole leaves and keys
-
-pub ints_any : (p : IntPart) → all_ints p ≡ true → p ≡ ints.Any
-ints_any ints.No h = absurd (cc)
-ints_any (ints.One i) h = absurd (cc)
-ints_any ints.Any h = refl
-
-pub strs_any : (p : StrPart) → all_strs p ≡ true → p ≡ strs.Any
-strs_any strs.No h = absurd (cc)
-strs_any (strs.One s) h = absurd (cc)
-strs_any strs.Any h = refl
-
-pub objs_any : (p : ObjPart) → all_objs p ≡ true → p ≡ objs.Any
-objs_any objs.No h = absurd (cc)
-objs_any (objs.Exact c) h = absurd (cc)
-objs_any (objs.Sub c) h = absurd (cc)
-objs_any objs.Any h = refl
-
-objs_none : (p : ObjPart) → no_objs p ≡ true → p ≡ objs.No
-objs_none objs.No h = refl
-objs_none (objs.Exact c) h = absurd (cc)
-objs_none (objs.Sub c) h = absurd (cc)
-objs_none objs.Any h = absurd (cc)
-
-pub leaf_is_cell : (l : Leaf) → whole_leaf l ≡ true → l ≡ cell_leaf
-leaf_is_cell l h =
-    let k1 = and_parts l.null _ h in
-    let k2 = and_parts l.no _ k1.1 in
-    let k3 = and_parts l.yes _ k2.1 in
-    let k4 = and_parts (all_ints l.int) _ k3.1 in
-    let k5 = and_parts (all_strs l.str) _ k4.1 in
-    let k6 = and_parts (all_objs l.obj) _ k5.1 in
-    let k7 = and_parts l.vec _ k6.1 in
-    let k8 = and_parts l.dict l.keyset k7.1 in
-    λ i. record {
-      null = k1.0 i;
-      no = k2.0 i;
-      yes = k3.0 i;
-      int = ints_any l.int k4.0 i;
-      str = strs_any l.str k5.0 i;
-      obj = objs_any l.obj k6.0 i;
-      vec = k7.0 i;
-      dict = k8.0 i;
-      keyset = k8.1 i;
-    }
+-- ---- keys
 
 -- a leaf of ints and strings alone
 abbrev pub of_keys : IntPart → StrPart → Leaf
@@ -83,24 +40,19 @@ pub record KeyParts (k : Leaf) : Type 0 where
 
 pub key_parts : (k : Leaf) → key_in_range k ≡ true → KeyParts k
 key_parts k h =
-    let k0 = and_parts (leaf_in_range k) _ h in
-    let r = and_parts (int_in_range k.int) (str_in_range k.str) k0.0 in
-    let k1 = and_parts (not k.null) _ k0.1 in
-    let k2 = and_parts (not k.no) _ k1.1 in
-    let k3 = and_parts (not k.yes) _ k2.1 in
-    let k4 = and_parts (no_objs k.obj) _ k3.1 in
-    let k5 = and_parts (not k.vec) _ k4.1 in
-    let k6 = and_parts (not k.dict) (not k.keyset) k5.1 in
+    let p = and_parts (leaf_in_range k) (has_keys_alone k) h in
+    let r = and_parts (int_in_range k.int) (str_in_range k.str) p.0 in
+    let a = tested_keys_alone k p.1 in
     let same : k ≡ of_keys k.int k.str = λ i. record {
-      null = not-true k.null k1.0 i;
-      no = not-true k.no k2.0 i;
-      yes = not-true k.yes k3.0 i;
+      null = a.null i;
+      no = a.no i;
+      yes = a.yes i;
       int = k.int;
       str = k.str;
-      obj = objs_none k.obj k4.0 i;
-      vec = not-true k.vec k5.0 i;
-      dict = not-true k.dict k6.0 i;
-      keyset = not-true k.keyset k6.1 i;
+      obj = a.obj i;
+      vec = a.vec i;
+      dict = a.dict i;
+      keyset = a.keyset i;
     } in
     record { int = r.0; str = r.1; is = sym same }
 

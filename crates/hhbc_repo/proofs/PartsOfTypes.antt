@@ -8,9 +8,9 @@ use Rattle.type_lattice.specs.declared.types.Leaf.{Leaf}
 use Rattle.type_lattice.specs.declared.types.HType.{HType}
 use Rattle.type_lattice.specs.Never.{no_objs}
 use Rattle.type_lattice.specs.TypeText.{class_name}
+use Rattle.type_lattice.specs.InRange.{where_there, leaf_in_range, key_in_range, obj_classes, vec_classes, dict_classes, classes_of}
 use Rattle.hhbc_repo.specs.LinkFaults.{Name}
 use Rattle.hhbc_repo.specs.Resolved.{obj_with, leaf_with}
-use Rattle.hhbc_repo.specs.TypeFits.{leaf_in_range, key_in_range, where_there, obj_classes, vec_classes, dict_classes, classes_of}
 use Rattle.hhbc_repo.specs.WrittenTypes.{canonical_type}
 use Rattle.hhbc_repo.specs.WrittenTypes as written
 

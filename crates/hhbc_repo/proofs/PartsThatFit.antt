@@ -3,10 +3,11 @@ use Rattle.std.proofs.Common.{◌≡◌, true, false, ◌&&◌, nat_le, []}
 use Rattle.std.specs.List.{list_all}
 use Rattle.std.proofs.lemmas.Bool.{and_from, and_parts}
 use Rattle.hhas_lex.specs.Spelling.{is_word}
+use Rattle.type_lattice.specs.InRange.{where_there}
 use Rattle.hhbc_repo.specs.declared.parts.BodyParts.{BodyParts}
 use Rattle.hhbc_repo.specs.declared.parts.ClassParts.{ClassParts}
 use Rattle.hhbc_repo.specs.Fits.{item_fits, nests, body_fits, const_fits, property_fits, class_fits}
-use Rattle.hhbc_repo.specs.TypeFits.{type_fits, where_there}
+use Rattle.hhbc_repo.specs.TypeFits.{type_fits}
 
 pub record BodyFits (b : BodyParts) : Type 0 where
   pub name : is_word b.name ≡ true

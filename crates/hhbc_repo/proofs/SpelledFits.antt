@@ -12,6 +12,7 @@ use Rattle.hack_values.specs.declared.cell.Cell.TheVariants as cells
 use Rattle.hhbc_ops.specs.declared.words.ImmKind.{ImmKind}
 use Rattle.hhbc_ops.specs.declared.words.ImmKind.TheVariants as kinds
 use Rattle.hhbc_ops.specs.Ops.{kinds_of, op_name}
+use Rattle.type_lattice.specs.InRange.{where_there}
 use Rattle.hhbc_repo.specs.declared.repo.Const.{Const}
 use Rattle.hhbc_repo.specs.declared.parts.ArmParts.{ArmParts}
 use Rattle.hhbc_repo.specs.declared.parts.AssertParts.{AssertParts}
@@ -39,7 +40,7 @@ use Rattle.hhbc_repo.specs.CodeSyntax.{AWord, ALocal, AString, AnInteger, AnInde
 use Rattle.hhbc_repo.specs.BodySyntax.{AnAssert, APosition, Items, Done, Label, Position, Try, has_code, ItemsOf, parts_of, AnItemList, Params, Returns, Declared, Iterators, Inner, ABody}
 use Rattle.hhbc_repo.specs.TextSyntax.{AScalar, AnInitial, AConst, AProperty, Member, AsConst, AsProperty, AsMethod, AMember, consts_of, props_of, methods_of, AClass, Declaration, AsFunction, AsClass, ADeclaration, functions_of, classes_of}
 use Rattle.hhbc_repo.specs.TypeSyntax.{AType}
-use Rattle.hhbc_repo.specs.TypeFits.{type_fits, where_there}
+use Rattle.hhbc_repo.specs.TypeFits.{type_fits}
 use Rattle.hhbc_repo.specs.Fits.{is_index, is_label, has_no_text, has_text, arm_fits, text_arm_fits, arms_fit, text_arms_fit, operand_fits, operands_fit, base_fits, key_fits, query_key_fits, set_key_fits, change_key_fits, final_fits, member_fits, code_fits, assert_fits, position_fits, item_fits, Open, InTry, InCatch, nests, body_fits, scalar_fits, initial_fits, const_fits, property_fits, class_fits, parts_fit}
 use Rattle.hhbc_repo.proofs.SpelledTypes.{AreProper, Passes, all_front, all_back, all_both, behind_passes, ended_passes, both_passes, separated_passes, a_type, a_constraint}
 

@@ -1,5 +1,5 @@
 -- Types that tokens of a text spell are within their ranges, and number their classes as they come.
-use Rattle.std.proofs.Common.{◌≡◌, ◌≤◌, ℕ, lit≤, zero, suc, ◌+◌, ◌-◌, Bool, true, not, ◌&&◌, ◌==◌, nat_le, List, [], ◌∷◌, ◌++◌, map, length, drop, replicate, Option, None, refl, sym, ap, ap₂, subst, ◌∙◌, arith, append_assoc, length-append, if◌then◌else◌, codes}
+use Rattle.std.proofs.Common.{◌≡◌, ◌≤◌, ℕ, lit≤, zero, suc, ◌+◌, ◌-◌, Bool, true, false, ◌&&◌, ◌==◌, nat_le, List, [], ◌∷◌, ◌++◌, map, length, drop, replicate, Option, None, refl, sym, ap, ap₂, subst, ◌∙◌, arith, append_assoc, length-append, if◌then◌else◌, codes}
 use Rattle.std.specs.List.{list_all, flat_map}
 use Rattle.std.specs.Str.{bytes_eq}
 use Rattle.std.proofs.lemmas.Bool.{and_from, and_parts, eq-eqb, le-leb, leb-true}
@@ -17,13 +17,16 @@ use Rattle.type_lattice.specs.declared.types.ObjPart.TheVariants as objs
 use Rattle.type_lattice.specs.declared.types.Leaf.{Leaf}
 use Rattle.type_lattice.specs.declared.types.HType.{HType}
 use Rattle.type_lattice.specs.Types.{never, never_leaf, str_part}
-use Rattle.type_lattice.specs.Never.{is_never, no_objs}
-use Rattle.type_lattice.specs.Whole.{whole_leaf, whole_entry, whole_key}
+use Rattle.type_lattice.specs.Never.{is_never}
 use Rattle.type_lattice.proofs.NeverLaws.{never_is_never}
+use Rattle.type_lattice.specs.InRange.{short_in_range, int_in_range, str_in_range, leaf_in_range, has_keys_alone, key_in_range, type_in_range, obj_classes, vec_classes, dict_classes, classes_of}
+use Rattle.type_lattice.specs.Keep.{is_constraint}
+use Rattle.type_lattice.proofs.Constraints.{WholeKinds, parts_constraint}
+use Rattle.type_lattice.proofs.Ranges.{RangeParts, parts_range}
 use Rattle.hhbc_repo.specs.Bodies.{numbers}
 use Rattle.hhbc_repo.specs.Languages.{Lang, Behind, Ended, Both, Separated}
 use Rattle.hhbc_repo.specs.TypeSyntax.{Atom, Null, False, True, Bools, Int, OneInt, Str, OneStr, Obj, Exact, Sub, Vec, Dict, Keyset, AnAtom, line, Ascend, is_key_atom, is_broad, Written, Never, Cell, Of, ALeaf, AKeyType, TypeAtom, Uninit, Plain, VecOf, DictOf, KeysetOf, ATypeAtom, type_line, WrittenType, NeverType, CellType, UninitCell, AtomsType, AWrittenType, AWrittenConstraint, atom_classes, classes_in, type_classes, leaf_with, leaf_from, leaf_of, type_plain, type_with, type_from, type_of, constraint_of, AType, AConstraint}
-use Rattle.hhbc_repo.specs.TypeFits.{short_in_range, int_in_range, str_in_range, leaf_in_range, key_in_range, entry_in_range, where_there, type_in_range, obj_classes, vec_classes, dict_classes, classes_of, type_fits, agree, no_one_int, no_one_str, no_one_class, is_constraint, constraint_fits}
+use Rattle.hhbc_repo.specs.TypeFits.{type_fits, constraint_fits}
 use Rattle.hhbc_repo.proofs.Numbering.{numbers_on}
 
 -- ---- proper tokens
@@ -177,10 +180,7 @@ leaf_range n (a ∷ xs) l h k =
     leaf_range (n + length (atom_classes a)) xs (leaf_with n a l) p.1 (leaf_step n a l p.0 k)
 
 -- an atom of a key changes no part but ints and strings
-abbrev no_others : Leaf → Bool
-no_others l = not l.null && (not l.no && (not l.yes && (no_objs l.obj && (not l.vec && (not l.dict && not l.keyset)))))
-
-key_step : (n : ℕ) (a : Atom) (l : Leaf) → is_key_atom a ≡ true → no_others (leaf_with n a l) ≡ no_others l
+key_step : (n : ℕ) (a : Atom) (l : Leaf) → is_key_atom a ≡ true → has_keys_alone (leaf_with n a l) ≡ has_keys_alone l
 key_step n Int l h = refl
 key_step n (OneInt i) l h = refl
 key_step n Str l h = refl
@@ -196,7 +196,7 @@ key_step n Vec l h = absurd (cc)
 key_step n Dict l h = absurd (cc)
 key_step n Keyset l h = absurd (cc)
 
-key_others : (n : ℕ) (xs : List Atom) (l : Leaf) → list_all is_key_atom xs ≡ true → no_others (leaf_from n xs l) ≡ no_others l
+key_others : (n : ℕ) (xs : List Atom) (l : Leaf) → list_all is_key_atom xs ≡ true → has_keys_alone (leaf_from n xs l) ≡ has_keys_alone l
 key_others n [] l h = refl
 key_others n (a ∷ xs) l h =
     let p = and_parts (is_key_atom a) (list_all is_key_atom xs) h in
@@ -303,39 +303,13 @@ key_passes n ts (Of xs) h p =
     let each = (separated_passes 124 AnAtom atom_in_range an_atom).passes ts xs h.0.0 p in
     let l = leaf_from n xs never_leaf in
     record {
-      range = and_from (leaf_in_range l) (no_others l) (leaf_range n xs never_leaf each refl) (key_others n xs never_leaf h.1);
+      range = and_from (leaf_in_range l) (has_keys_alone l) (leaf_range n xs never_leaf each refl) (key_others n xs never_leaf h.1);
       classes = keys_classless xs h.1;
     }
 
 -- ---- types with an atom more
 
-record InRange (t : HType) : Type 0 where
-  int : int_in_range t.int ≡ true
-  str : str_in_range t.str ≡ true
-  vec : where_there leaf_in_range t.vec ≡ true
-  dict : where_there entry_in_range t.dict ≡ true
-  keyset : where_there key_in_range t.keyset ≡ true
-
-in_range : (t : HType) → type_in_range t ≡ true → InRange t
-in_range t h =
-    let keyset = where_there key_in_range t.keyset in
-    let dict = where_there entry_in_range t.dict && keyset in
-    let vec = where_there leaf_in_range t.vec && dict in
-    let a = and_parts (int_in_range t.int) (str_in_range t.str && vec) h in
-    let b = and_parts (str_in_range t.str) vec a.1 in
-    let c = and_parts (where_there leaf_in_range t.vec) dict b.1 in
-    let d = and_parts (where_there entry_in_range t.dict) keyset c.1 in
-    record { int = a.0; str = b.0; vec = c.0; dict = d.0; keyset = d.1 }
-
-from_range : (t : HType) → InRange t → type_in_range t ≡ true
-from_range t r =
-    let keyset = where_there key_in_range t.keyset in
-    let dict = where_there entry_in_range t.dict && keyset in
-    let vec = where_there leaf_in_range t.vec && dict in
-    and_from (int_in_range t.int) (str_in_range t.str && vec) r.int
-    (and_from (str_in_range t.str) vec r.str (and_from (where_there leaf_in_range t.vec) dict r.vec (and_from (where_there entry_in_range t.dict) keyset r.dict r.keyset)))
-
-plain_range : (n : ℕ) (a : Atom) (t : HType) → atom_in_range a ≡ true → InRange t → InRange (type_plain n a t)
+plain_range : (n : ℕ) (a : Atom) (t : HType) → atom_in_range a ≡ true → RangeParts t → RangeParts (type_plain n a t)
 plain_range n Null t h r = record { int = r.int; str = r.str; vec = r.vec; dict = r.dict; keyset = r.keyset }
 plain_range n False t h r = record { int = r.int; str = r.str; vec = r.vec; dict = r.dict; keyset = r.keyset }
 plain_range n True t h r = record { int = r.int; str = r.str; vec = r.vec; dict = r.dict; keyset = r.keyset }
@@ -424,7 +398,7 @@ plain_blank n Keyset t b = late_blank 9 (type_plain n Keyset t) (lit≤ tt)
 
 -- what an atom of a type keeps
 record AtomFits (x : TypeAtom) : Type 0 where
-  range : (n : ℕ) (t : HType) → InRange t → InRange (type_with n x t)
+  range : (n : ℕ) (t : HType) → RangeParts t → RangeParts (type_with n x t)
   classes : (n : ℕ) (t : HType) → Blank (type_line x) t → classes_of (type_with n x t) ≡ classes_of t ++ numbers n (length (type_classes x))
   blank : (n : ℕ) (t : HType) → Blank (type_line x) t → Blank (suc (type_line x)) (type_with n x t)
   words : list_all is_word (type_classes x) ≡ true
@@ -511,7 +485,7 @@ type_atoms_fit ts (x ∷ y ∷ xs) w p =
     let r = all_back is_proper w.0 _ q in
     (type_atom_fits w.0 x w.2 (all_front is_proper w.0 _ q), type_atoms_fit w.1 (y ∷ xs) w.3 (all_back is_proper (Mark 124 ∷ []) w.1 r))
 
-from_in_range : (n : ℕ) (xs : List TypeAtom) (t : HType) → AllFit xs → InRange t → InRange (type_from n xs t)
+from_in_range : (n : ℕ) (xs : List TypeAtom) (t : HType) → AllFit xs → RangeParts t → RangeParts (type_from n xs t)
 from_in_range n [] t f r = r
 from_in_range n (x ∷ xs) t f r = from_in_range (n + length (type_classes x)) xs (type_with n x t) f.1 (f.0.range n t r)
 
@@ -528,7 +502,7 @@ from_words : (xs : List TypeAtom) → AllFit xs → list_all is_word (flat_map t
 from_words [] f = refl
 from_words (x ∷ xs) f = all_both is_word (type_classes x) (flat_map type_classes xs) f.0.words (from_words xs f.1)
 
-never_in_range : InRange never
+never_in_range : RangeParts never
 never_in_range = record { int = refl; str = refl; vec = refl; dict = refl; keyset = refl }
 
 never_blank : Blank 0 never
@@ -539,7 +513,7 @@ atoms_fit xs f h =
     let t = type_from 0 xs never in
     let names = flat_map type_classes xs in
     and_from (type_in_range t) (bytes_eq (classes_of t) (numbers 0 (length names)) && list_all is_word names)
-    (from_range t (from_in_range 0 xs never f never_in_range))
+    (parts_range t (from_in_range 0 xs never f never_in_range))
     (and_from (bytes_eq (classes_of t) (numbers 0 (length names))) (list_all is_word names)
     (ap (λ l. bytes_eq l (numbers 0 (length names))) (from_classes 0 0 xs never f h never_blank) ∙ (bytes_eq-Decides (numbers 0 (length names)) (numbers 0 (length names))).1 refl)
     (from_words xs f))
@@ -555,17 +529,7 @@ a_type = record { passes = λ ts t w p. ap type_fits w.is ∙ written_fits ts w.
 
 -- ---- constraints
 
-record IsBroad (t : HType) : Type 0 where
-  uninit : not t.uninit ≡ true
-  bools : agree t.no t.yes ≡ true
-  int : no_one_int t.int ≡ true
-  str : no_one_str t.str ≡ true
-  obj : no_one_class t.obj ≡ true
-  vec : where_there whole_leaf t.vec ≡ true
-  dict : where_there whole_entry t.dict ≡ true
-  keyset : where_there whole_key t.keyset ≡ true
-
-broad_step : (n : ℕ) (a : Atom) (t : HType) → is_broad a ≡ true → IsBroad t → IsBroad (type_plain n a t)
+broad_step : (n : ℕ) (a : Atom) (t : HType) → is_broad a ≡ true → WholeKinds t → WholeKinds (type_plain n a t)
 broad_step n Null t h b = record { uninit = b.uninit; bools = b.bools; int = b.int; str = b.str; obj = b.obj; vec = b.vec; dict = b.dict; keyset = b.keyset }
 broad_step n Bools t h b = record { uninit = b.uninit; bools = refl; int = b.int; str = b.str; obj = b.obj; vec = b.vec; dict = b.dict; keyset = b.keyset }
 broad_step n Int t h b = record { uninit = b.uninit; bools = b.bools; int = refl; str = b.str; obj = b.obj; vec = b.vec; dict = b.dict; keyset = b.keyset }
@@ -581,7 +545,7 @@ broad_step n (OneInt i) t h b = absurd (cc)
 broad_step n (OneStr s) t h b = absurd (cc)
 broad_step n (Exact c) t h b = absurd (cc)
 
-broad_from : (n : ℕ) (xs : List Atom) (t : HType) → list_all is_broad xs ≡ true → IsBroad t → IsBroad (type_from n (map Plain xs) t)
+broad_from : (n : ℕ) (xs : List Atom) (t : HType) → list_all is_broad xs ≡ true → WholeKinds t → WholeKinds (type_from n (map Plain xs) t)
 broad_from n [] t h b = b
 broad_from n (a ∷ xs) t h b =
     let p = and_parts (is_broad a) (list_all is_broad xs) h in
@@ -604,30 +568,13 @@ some_part n (OneInt i) t h e = absurd (cc)
 some_part n (OneStr s) t h e = absurd (cc)
 some_part n (Exact c) t h e = absurd (cc)
 
-not_never : (t : HType) → (t ≡ never → ⊥) → not (is_never t) ≡ true
-not_never t h = split (is_never t) (λ e. absurd (h ((never_is_never t).0 e))) (λ e. ap not e)
+not_never : (t : HType) → (t ≡ never → ⊥) → is_never t ≡ false
+not_never t h = split (is_never t) (λ e. absurd (h ((never_is_never t).0 e))) (λ e. e)
 
 broad_parts : (n : ℕ) (a : Atom) (xs : List Atom) (t : HType) → list_all is_broad (a ∷ xs) ≡ true → type_from n (map Plain (a ∷ xs)) t ≡ never → ⊥
 broad_parts n a [] t h e = some_part n a t (and_parts (is_broad a) true h).0 e
 broad_parts n a (b ∷ xs) t h e =
     broad_parts (n + length (atom_classes a)) b xs (type_plain n a t) (and_parts (is_broad a) (list_all is_broad (b ∷ xs)) h).1 e
-
-broad_is : (t : HType) → IsBroad t → (t ≡ never → ⊥) → is_constraint t ≡ true
-broad_is t b n =
-    let keyset = where_there whole_key t.keyset && not (is_never t) in
-    let dict = where_there whole_entry t.dict && keyset in
-    let vec = where_there whole_leaf t.vec && dict in
-    let obj = no_one_class t.obj && vec in
-    let str = no_one_str t.str && obj in
-    let int = no_one_int t.int && str in
-    and_from (not t.uninit) (agree t.no t.yes && int) b.uninit
-    (and_from (agree t.no t.yes) int b.bools
-    (and_from (no_one_int t.int) str b.int
-    (and_from (no_one_str t.str) obj b.str
-    (and_from (no_one_class t.obj) vec b.obj
-    (and_from (where_there whole_leaf t.vec) dict b.vec
-    (and_from (where_there whole_entry t.dict) keyset b.dict
-    (and_from (where_there whole_key t.keyset) (not (is_never t)) b.keyset (not_never t n))))))))
 
 plain_all : (xs : List Atom) → list_all atom_in_range xs ≡ true → AllFit (map Plain xs)
 plain_all [] h = tt
@@ -647,9 +594,9 @@ broad_written ts (a ∷ xs) w h b p =
     let each = plain_all (a ∷ xs) ((separated_passes 124 AnAtom atom_in_range an_atom).passes ts (a ∷ xs) w p) in
     and_from (type_fits (constraint_of (Of (a ∷ xs)))) (is_constraint t)
     (atoms_fit ys each (subst (λ (l : List ℕ). Ascend 0 l) (sym (plain_lines (a ∷ xs))) h))
-    (broad_is t (broad_from 0 (a ∷ xs) never b never_broad) (broad_parts 0 a xs never b))
+    (parts_constraint t (broad_from 0 (a ∷ xs) never b never_broad) (not_never t (broad_parts 0 a xs never b)))
   where
-    never_broad : IsBroad never
+    never_broad : WholeKinds never
     never_broad = record { uninit = refl; bools = refl; int = refl; str = refl; obj = refl; vec = refl; dict = refl; keyset = refl }
 
 constraint_written : (ts : List Token) (w : Written) → AWrittenConstraint ts w → AreProper ts → constraint_fits (constraint_of w) ≡ true

@@ -1,40 +1,32 @@
 -- Types whose classes are numbers of a repository's, with the names of these classes: they fit, pass the checks of linking and link to
--- the same types. Proper types are such.
-use Rattle.std.proofs.Common.{◌≡◌, ◌<◌, ◌^◌, ℕ, zero, suc, ◌+◌, ◌-◌, pos, negsuc, Bool, true, false, not, ◌&&◌, ◌||◌, ◌==◌, nat_le, nat_lt, List, [], ◌∷◌, ◌++◌, map, flat_map, length, drop, replicate, Option, Some, None, option_map, is_some, All, refl, sym, ap, ap₂, ◌∙◌, arith, append_assoc, length-append, cond}
+-- the same types.
+use Rattle.std.proofs.Common.{◌≡◌, ◌<◌, ◌^◌, ℕ, zero, suc, ◌+◌, ◌-◌, Bool, true, false, not, ◌&&◌, ◌||◌, ◌==◌, nat_lt, List, [], ◌∷◌, ◌++◌, map, flat_map, length, Option, Some, None, option_map, is_some, refl, sym, ap, ap₂, ◌∙◌, arith, append_assoc, length-append, cond}
 use Rattle.std.specs.List.{list_all}
 use Rattle.std.specs.Str.{bytes_eq}
-use Rattle.std.proofs.lemmas.Bool.{and_from, and_parts, or_parts, not-true, eq-eqb, le-leb, leb-true}
+use Rattle.std.proofs.lemmas.Bool.{and_from, and_parts, or_parts, not-true, le-leb, leb-true}
 use Rattle.std.proofs.lemmas.List.{append-nil, length-map}
 use Rattle.std.proofs.lemmas.List.Folds.{list_any-append}
 use Rattle.std.proofs.lemmas.Option.{slice_get-map}
 use Rattle.std.proofs.lemmas.Slice.Eq.{bytes_eq-Decides}
-use Rattle.hhas_lex.specs.Spelling.{is_byte, is_word}
-use Rattle.type_lattice.specs.declared.types.IntPart.{IntPart}
-use Rattle.type_lattice.specs.declared.types.IntPart.TheVariants as ints
-use Rattle.type_lattice.specs.declared.types.StrPart.{StrPart}
-use Rattle.type_lattice.specs.declared.types.StrPart.TheVariants as strs
+use Rattle.hhas_lex.specs.Spelling.{is_word}
 use Rattle.type_lattice.specs.declared.types.ObjPart.{ObjPart}
 use Rattle.type_lattice.specs.declared.types.ObjPart.TheVariants as objs
-use Rattle.type_lattice.specs.declared.types.Short.{Short}
 use Rattle.type_lattice.specs.declared.types.Leaf.{Leaf}
 use Rattle.type_lattice.specs.declared.types.HType.{HType}
-use Rattle.type_lattice.specs.Classes.{Tree}
-use Rattle.type_lattice.specs.Never.{no_objs}
-use Rattle.type_lattice.specs.Proper.{ProperInt, ProperShort, ProperStr, ProperObj, ProperLeaf, ProperKey, ProperVec, ProperDict, ProperKeyset, IsProper}
 use Rattle.type_lattice.specs.TypeText.{class_name}
+use Rattle.type_lattice.specs.InRange.{where_there, is_proper, int_in_range, str_in_range, leaf_in_range, key_in_range, entry_in_range, type_in_range, obj_classes, vec_classes, dict_classes, classes_of}
 use Rattle.hhbc_repo.specs.Bodies.{numbers}
 use Rattle.hhbc_repo.specs.LinkFaults.{Name, Whole, is_name, names, place_in, class_names, class_of, known, class_faults, type_faults}
 use Rattle.hhbc_repo.specs.Names.{distinct, distinct_from}
 use Rattle.hhbc_repo.specs.Resolved.{or_zero, named_class, class_at, obj_with, leaf_with, entry_with, type_with, resolved_type}
-use Rattle.hhbc_repo.specs.TypeFits.{short_in_range, int_in_range, str_in_range, leaf_in_range, key_in_range, entry_in_range, where_there, type_in_range, obj_classes, vec_classes, dict_classes, classes_of, type_fits}
+use Rattle.hhbc_repo.specs.TypeFits.{type_fits}
 use Rattle.hhbc_repo.specs.WrittenTypes.{obj_placed, leaf_placed, entry_placed, canonical_type}
 use Rattle.hhbc_repo.specs.WrittenTypes as written
-use Rattle.hhbc_repo.specs.Within.{type_within}
 use Rattle.hhbc_repo.proofs.Elements.{slice_seam}
 use Rattle.hhbc_repo.proofs.Numbering.{numbers_on}
 use Rattle.hhbc_repo.proofs.NumbersPut.{place_step}
 use Rattle.hhbc_repo.proofs.PartsOfTypes.{there_same, key_kept, keyset_kept, classes_named, obj_count, vec_count}
-use Rattle.hhbc_repo.proofs.SpelledTypes.{all_front, all_back, all_both}
+use Rattle.hhbc_repo.proofs.SpelledTypes.{all_front, all_back}
 
 -- ---- names by number
 
@@ -116,7 +108,7 @@ module _ (all : List Name) where
       let p = and_parts (nat_lt c (length all)) (list_all (λ c. nat_lt c (length all)) cs) k in
       and_from (is_word (called c)) (list_all is_word (map called cs)) (word_at all c h p.0) (called_words h cs p.1)
 
-  pub type_canonical_fits : (t : HType) → list_all is_word all ≡ true → type_within (length all) t ≡ true → type_fits (canonical_type all t) ≡ true
+  pub type_canonical_fits : (t : HType) → list_all is_word all ≡ true → is_proper (length all) t ≡ true → type_fits (canonical_type all t) ≡ true
   type_canonical_fits t h k =
       let u = canonical_type all t in
       let p = and_parts (type_in_range t) (list_all (λ c. nat_lt c (length all)) (classes_of t)) k in
@@ -168,7 +160,7 @@ module _ (w : Whole) (apart : distinct (class_names w) ≡ true) where
       let value = ap (λ (o : ObjPart). record d.1 { obj = o }) (obj_forth all front rest n d.1.obj e l h) in
       λ i. Some (key i, value i)
 
-  resolves_forth : (t : HType) → type_within (length (class_names w)) t ≡ true → type_with (class_at w (map to_name (classes_of t))) (canonical_type (class_names w) t).t ≡ t
+  resolves_forth : (t : HType) → is_proper (length (class_names w)) t ≡ true → type_with (class_at w (map to_name (classes_of t))) (canonical_type (class_names w) t).t ≡ t
   resolves_forth t h =
       let vecs = where_there leaf_in_range t.vec in
       let dicts = where_there entry_in_range t.dict in
@@ -193,7 +185,7 @@ module _ (w : Whole) (apart : distinct (class_names w) ≡ true) where
       let keyset = keyset_kept (class_at w (map to_name all)) t.keyset z.1 in
       λ i. record t { obj = object i; vec = vec i; dict = dict i; keyset = keyset i }
 
-  pub type_forth : (owner : Name) (t : HType) → type_within (length (class_names w)) t ≡ true
+  pub type_forth : (owner : Name) (t : HType) → is_proper (length (class_names w)) t ≡ true
       → (type_faults w owner (canonical_type (class_names w) t) ≡ []) × (resolved_type w (canonical_type (class_names w) t) ≡ t)
   type_forth owner t h =
       let p = and_parts (type_in_range t) (list_all listed (classes_of t)) h in
@@ -201,72 +193,3 @@ module _ (w : Whole) (apart : distinct (class_names w) ≡ true) where
         ap (flat_map (class_faults w owner)) named_so ∙ classes_known owner (classes_of t) p.1,
         ap (λ (l : List Name). type_with (class_at w l) (canonical_type (class_names w) t).t) named_so ∙ resolves_forth t h,
       )
-
--- ---- proper types
-
-int_within : (p : IntPart) → ProperInt p → int_in_range p ≡ true
-int_within ints.No h = refl
-int_within (ints.One (pos n)) h = le-leb (suc n) (2 ^ 63) h.sfits
-int_within (ints.One (negsuc n)) h = le-leb (suc n) (2 ^ 63) h.sfits
-int_within ints.Any h = refl
-
-bytes_within : (bs : List ℕ) → All (λ b. b < 256) bs → list_all is_byte bs ≡ true
-bytes_within [] h = refl
-bytes_within (b ∷ bs) h = and_from (is_byte b) (list_all is_byte bs) (le-leb (suc b) 256 (h 0 0 (omega arith))) (bytes_within bs (λ k d l. h (suc k) d (omega (arith, l))))
-
-short_within : (s : Short) → ProperShort s → short_in_range s ≡ true
-short_within s h =
-    let zeros = bytes_eq (drop s.len s.bytes) (replicate (32 - s.len) 0) in
-    and_from (nat_le s.len 32) ((length s.bytes == 32) && (list_all is_byte s.bytes && zeros)) (le-leb s.len 32 h.short)
-    (and_from (length s.bytes == 32) (list_all is_byte s.bytes && zeros) (eq-eqb (length s.bytes) 32 h.room)
-    (and_from (list_all is_byte s.bytes) zeros (bytes_within s.bytes h.bytes) ((bytes_eq-Decides (drop s.len s.bytes) (replicate (32 - s.len) 0)).1 h.zeros)))
-
-str_within : (p : StrPart) → ProperStr p → str_in_range p ≡ true
-str_within strs.No h = refl
-str_within (strs.One s) h = short_within s h
-str_within strs.Any h = refl
-
-key_within : (k : Leaf) → ProperKey k → key_in_range k ≡ true
-key_within k h =
-    let e : (not k.null && (not k.no && (not k.yes && (no_objs k.obj && (not k.vec && (not k.dict && not k.keyset)))))) ≡ true =
-    λ i. not (h.null i) && (not (h.no i) && (not (h.yes i) && (no_objs (h.obj i) && (not (h.vec i) && (not (h.dict i) && not (h.keyset i)))))) in
-    and_from (leaf_in_range k) (not k.null && (not k.no && (not k.yes && (no_objs k.obj && (not k.vec && (not k.dict && not k.keyset))))))
-    (and_from (int_in_range k.int) (str_in_range k.str) (int_within k.int h.int) (str_within k.str h.str)) e
-
-module _ (tree : Tree) where
-  abbrev in_tree : ℕ → Bool
-  in_tree c = nat_lt c (length tree)
-
-  obj_within : (o : ObjPart) → ProperObj tree o → list_all in_tree (obj_classes o) ≡ true
-  obj_within objs.No h = refl
-  obj_within (objs.Exact c) h = and_from (in_tree c) true (le-leb (suc c) (length tree) h) refl
-  obj_within (objs.Sub c) h = and_from (in_tree c) true (le-leb (suc c) (length tree) h) refl
-  obj_within objs.Any h = refl
-
-  leaf_within : (l : Leaf) → ProperLeaf tree l → leaf_in_range l ≡ true
-  leaf_within l h = and_from (int_in_range l.int) (str_in_range l.str) (int_within l.int h.int) (str_within l.str h.str)
-
-  vec_within : (v : Option Leaf) → ProperVec tree v → (where_there leaf_in_range v ≡ true) × (list_all in_tree (vec_classes v) ≡ true)
-  vec_within None h = (refl, refl)
-  vec_within (Some l) h = (leaf_within l h, obj_within l.obj h.obj)
-
-  dict_within : (d : Option (Leaf × Leaf)) → ProperDict tree d → (where_there entry_in_range d ≡ true) × (list_all in_tree (dict_classes d) ≡ true)
-  dict_within None h = (refl, refl)
-  dict_within (Some e) h = (and_from (key_in_range e.0) (leaf_in_range e.1) (key_within e.0 h.0) (leaf_within e.1 h.1), obj_within e.1.obj h.1.obj)
-
-  keyset_within : (k : Option Leaf) → ProperKeyset k → where_there key_in_range k ≡ true
-  keyset_within None h = refl
-  keyset_within (Some l) h = key_within l h
-
-  pub proper_within : (t : HType) → IsProper tree t → type_within (length tree) t ≡ true
-  proper_within t h =
-      let vecs = where_there leaf_in_range t.vec in
-      let dicts = where_there entry_in_range t.dict in
-      let keysets = where_there key_in_range t.keyset in
-      let v = vec_within t.vec h.vec in
-      let d = dict_within t.dict h.dict in
-      and_from (type_in_range t) (list_all in_tree (classes_of t))
-      (and_from (int_in_range t.int) (str_in_range t.str && (vecs && (dicts && keysets))) (int_within t.int h.int)
-      (and_from (str_in_range t.str) (vecs && (dicts && keysets)) (str_within t.str h.str)
-      (and_from vecs (dicts && keysets) v.0 (and_from dicts keysets d.0 (keyset_within t.keyset h.keyset)))))
-      (all_both in_tree (obj_classes t.obj) (vec_classes t.vec ++ dict_classes t.dict) (obj_within t.obj h.obj) (all_both in_tree (vec_classes t.vec) (dict_classes t.dict) v.1 d.1))

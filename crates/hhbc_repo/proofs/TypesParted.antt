@@ -19,10 +19,13 @@ use Rattle.type_lattice.specs.declared.types.HType.{HType}
 use Rattle.type_lattice.specs.Types.{never}
 use Rattle.type_lattice.specs.TypeText.{class_name}
 use Rattle.type_lattice.specs.Whole.{whole_leaf, whole_entry, whole_key}
+use Rattle.type_lattice.specs.InRange.{where_there, int_in_range, str_in_range, leaf_in_range, key_in_range, entry_in_range, type_in_range, obj_classes, vec_classes, dict_classes, classes_of}
+use Rattle.type_lattice.proofs.Constraints.{leaf_is_cell}
+use Rattle.type_lattice.proofs.Ranges.{range_parts}
 use Rattle.hhbc_repo.specs.Bodies.{numbers}
 use Rattle.hhbc_repo.specs.CanonicalText.{written_tokens, type_atom_tokens}
 use Rattle.hhbc_repo.specs.LinkFaults.{Name}
-use Rattle.hhbc_repo.specs.TypeFits.{int_in_range, str_in_range, leaf_in_range, key_in_range, entry_in_range, where_there, type_in_range, obj_classes, vec_classes, dict_classes, classes_of, type_fits}
+use Rattle.hhbc_repo.specs.TypeFits.{type_fits}
 use Rattle.hhbc_repo.specs.TypeSyntax.{Atom, Null, Vec, Dict, Keyset, line, Written, ALeaf, AKeyType, TypeAtom, Uninit, Plain, VecOf, DictOf, KeysetOf, ATypeAtom, type_line, atom_classes, type_classes, type_with, type_from}
 use Rattle.hhbc_repo.specs.WrittenTypes.{atom, bool_atoms, int_atoms, str_atoms, obj_atoms, plain, plains, vec_atoms, dict_atoms, keyset_atoms, uninit_atoms, scalar_atoms, container_atoms, written_leaf, written_key}
 use Rattle.hhbc_repo.specs.WrittenTypes as written
@@ -30,7 +33,7 @@ use Rattle.hhbc_repo.specs.declared.parts.TypeParts.{TypeParts}
 use Rattle.hhbc_repo.proofs.AtomsSpelled.{Segment, segments, switch_segment, bools_segment, ints_segment, strs_segment, objs_segment, short_fits, atom_fits, atom_spelled, atom_inner, Climbs, climbs_both}
 use Rattle.hhbc_repo.proofs.Elements.{same_first, same_rest}
 use Rattle.hhbc_repo.proofs.InnerTokens.{Inner, inner_word, inner_both, inner_bracketed}
-use Rattle.hhbc_repo.proofs.LeavesWritten.{leaf_written, key_written, leaf_is_cell, key_is_whole, first_number}
+use Rattle.hhbc_repo.proofs.LeavesWritten.{leaf_written, key_written, key_is_whole, first_number}
 use Rattle.hhbc_repo.proofs.Numbering.{numbers_length}
 use Rattle.hhbc_repo.proofs.PartsOfTypes.{classes_named, obj_count, vec_count}
 use Rattle.hhbc_repo.proofs.SpelledTypes.{all_front, all_back}
@@ -342,19 +345,16 @@ type_facts t h =
     let all = numbers 0 (length t.classes) in
     let p = and_parts (type_in_range t.t) (bytes_eq (classes_of t.t) all && list_all is_word t.classes) h in
     let q = and_parts (bytes_eq (classes_of t.t) all) (list_all is_word t.classes) p.1 in
-    let a = and_parts (int_in_range t.t.int) _ p.0 in
-    let b = and_parts (str_in_range t.t.str) _ a.1 in
-    let c = and_parts (where_there leaf_in_range t.t.vec) _ b.1 in
-    let d = and_parts (where_there entry_in_range t.t.dict) (where_there key_in_range t.t.keyset) c.1 in
+    let parts = range_parts t.t p.0 in
     let numbered : classes_of t.t ≡ all = (bytes_eq-Decides (classes_of t.t) all).0 q.0 in
     let count : length t.classes ≡ length (classes_of t.t) = sym (ap (λ (l : List ℕ). length l) numbered ∙ numbers_length 0 (length t.classes)) in
     let named : named_classes t.classes t.t ≡ t.classes = classes_named t.classes t.t ∙ ap (map (class_name t.classes)) numbered ∙ names_numbered t.classes in
     record {
-      int = a.0;
-      str = b.0;
-      vec = c.0;
-      dict = d.0;
-      keyset = d.1;
+      int = parts.int;
+      str = parts.str;
+      vec = parts.vec;
+      dict = parts.dict;
+      keyset = parts.keyset;
       numbered = numbered ∙ ap (numbers 0) count;
       named = named;
       words = ap (list_all is_word) named ∙ q.1;

@@ -1,7 +1,7 @@
 -- The written form of a type or constraint that fits stands for it, and its tokens spell it.
 use Rattle.std.proofs.Common.{◌≡◌, ℕ, suc, Bool, true, false, not, if◌then◌else◌, List, [], ◌∷◌, ◌++◌, map, Option, Some, None, refl, sym, ap, ap₂, subst, ◌∙◌}
 use Rattle.std.specs.List.{list_all, flat_map}
-use Rattle.std.proofs.lemmas.Bool.{and_from, and_parts, not-true}
+use Rattle.std.proofs.lemmas.Bool.{and_from, and_parts}
 use Rattle.hhas_lex.specs.Tokens.{Token}
 use Rattle.type_lattice.specs.declared.types.IntPart.{IntPart}
 use Rattle.type_lattice.specs.declared.types.IntPart.TheVariants as ints
@@ -15,15 +15,18 @@ use Rattle.type_lattice.specs.Types.{never, cell, cell_leaf, key_leaf}
 use Rattle.type_lattice.specs.Never.{is_never, is_absent}
 use Rattle.type_lattice.specs.Whole.{all_ints, all_strs, all_objs, whole_leaf, whole_entry, whole_key, part_is, is_whole}
 use Rattle.type_lattice.proofs.NeverLaws.{never_is_never}
+use Rattle.type_lattice.specs.InRange.{where_there, leaf_in_range, has_keys_alone, key_in_range, entry_in_range}
+use Rattle.type_lattice.specs.Keep.{agree, no_one_int, no_one_str, no_one_class, is_all_keys, is_all_entries, is_constraint}
+use Rattle.type_lattice.proofs.Constraints.{ints_any, strs_any, objs_any, leaf_is_cell, WholeKinds, constraint_parts}
 use Rattle.hhbc_repo.specs.CanonicalText.{barred, type_atom_tokens, type_tokens}
 use Rattle.hhbc_repo.specs.LinkFaults.{Name}
-use Rattle.hhbc_repo.specs.TypeFits.{key_in_range, leaf_in_range, entry_in_range, where_there, type_fits, agree, no_one_int, no_one_str, no_one_class, is_constraint, constraint_fits}
+use Rattle.hhbc_repo.specs.TypeFits.{type_fits, constraint_fits}
 use Rattle.hhbc_repo.specs.TypeSyntax.{Atom, Vec, Dict, Keyset, Null, AnAtom, atom_tokens, line, is_broad, Cell, Of, TypeAtom, Plain, VecOf, DictOf, KeysetOf, ATypeAtom, type_line, WrittenType, NeverType, CellType, UninitCell, AtomsType, of_atoms, AType, AConstraint}
 use Rattle.hhbc_repo.specs.WrittenTypes.{atom, bool_atoms, int_atoms, str_atoms, obj_atoms, plain, plains, vec_atoms, dict_atoms, keyset_atoms, uninit_atoms, scalar_atoms, container_atoms, written_leaf, written_key, written_type_atoms, written_whole, written_type}
 use Rattle.hhbc_repo.specs.declared.parts.TypeParts.{TypeParts}
 use Rattle.hhbc_repo.proofs.AtomsSpelled.{AllSpelled, separated_spelled, Climbs, climbs_ascend}
 use Rattle.hhbc_repo.proofs.InnerTokens.{Inner, AllInner, inner_word, inner_joined, inner_both}
-use Rattle.hhbc_repo.proofs.LeavesWritten.{ints_any, strs_any, objs_any, leaf_is_cell, key_is_whole}
+use Rattle.hhbc_repo.proofs.LeavesWritten.{key_is_whole}
 use Rattle.hhbc_repo.proofs.SpelledTypes.{all_both}
 use Rattle.hhbc_repo.proofs.TypesParted.{AllFit, TypePart, TypeFits, type_facts, named_classes, atoms_of, type_part, plains_both}
 
@@ -148,49 +151,19 @@ vec_plain : (names : List Name) (o : Option Leaf) → where_there whole_leaf o �
 vec_plain names None h = refl
 vec_plain names (Some l) h = ap (λ (b : Bool). (if b then plain Vec else VecOf (written_leaf names l)) ∷ []) h
 
-dict_plain : (names : List Name) (o : Option (Leaf × Leaf)) → where_there whole_entry o ≡ true → dict_atoms names o ≡ plains (atom (not (is_absent o)) Dict)
+dict_plain : (names : List Name) (o : Option (Leaf × Leaf)) → where_there is_all_entries o ≡ true → dict_atoms names o ≡ plains (atom (not (is_absent o)) Dict)
 dict_plain names None h = refl
-dict_plain names (Some e) h = ap (λ (b : Bool). (if b then plain Dict else DictOf (written_key e.0) (written_leaf names e.1)) ∷ []) h
+dict_plain names (Some e) h =
+    let p = and_parts (is_all_keys e.0) (whole_leaf e.1) h in
+    let whole : whole_entry e ≡ true = and_from (whole_key e.0) (whole_leaf e.1) (and_parts (has_keys_alone e.0) (whole_key e.0) p.0).1 p.1 in
+    ap (λ (b : Bool). (if b then plain Dict else DictOf (written_key e.0) (written_leaf names e.1)) ∷ []) whole
 
-keyset_plain : (o : Option Leaf) → where_there whole_key o ≡ true → keyset_atoms o ≡ plains (atom (not (is_absent o)) Keyset)
+keyset_plain : (o : Option Leaf) → where_there is_all_keys o ≡ true → keyset_atoms o ≡ plains (atom (not (is_absent o)) Keyset)
 keyset_plain None h = refl
-keyset_plain (Some k) h = ap (λ (b : Bool). (if b then plain Keyset else KeysetOf (written_key k)) ∷ []) h
+keyset_plain (Some k) h =
+    ap (λ (b : Bool). (if b then plain Keyset else KeysetOf (written_key k)) ∷ []) (and_parts (has_keys_alone k) (whole_key k) h).1
 
--- what a constraint is like
-record Broad (t : HType) : Type 0 where
-  uninit : t.uninit ≡ false
-  bools : agree t.no t.yes ≡ true
-  int : no_one_int t.int ≡ true
-  str : no_one_str t.str ≡ true
-  obj : no_one_class t.obj ≡ true
-  vec : where_there whole_leaf t.vec ≡ true
-  dict : where_there whole_entry t.dict ≡ true
-  keyset : where_there whole_key t.keyset ≡ true
-  there : is_never t ≡ false
-
-broad : (t : HType) → is_constraint t ≡ true → Broad t
-broad t h =
-    let k1 = and_parts (not t.uninit) _ h in
-    let k2 = and_parts (agree t.no t.yes) _ k1.1 in
-    let k3 = and_parts (no_one_int t.int) _ k2.1 in
-    let k4 = and_parts (no_one_str t.str) _ k3.1 in
-    let k5 = and_parts (no_one_class t.obj) _ k4.1 in
-    let k6 = and_parts (where_there whole_leaf t.vec) _ k5.1 in
-    let k7 = and_parts (where_there whole_entry t.dict) _ k6.1 in
-    let k8 = and_parts (where_there whole_key t.keyset) (not (is_never t)) k7.1 in
-    record {
-      uninit = not-true t.uninit k1.0;
-      bools = k2.0;
-      int = k3.0;
-      str = k4.0;
-      obj = k5.0;
-      vec = k6.0;
-      dict = k7.0;
-      keyset = k8.0;
-      there = not-true (is_never t) k8.1;
-    }
-
-all_plain : (names : List Name) (t : HType) → Broad t → atoms_of names t ≡ plains (plain_atoms names t)
+all_plain : (names : List Name) (t : HType) → WholeKinds t → atoms_of names t ≡ plains (plain_atoms names t)
 all_plain names t b =
     let vec = atom (not (is_absent t.vec)) Vec in
     let dict = atom (not (is_absent t.dict)) Dict in
@@ -228,7 +201,7 @@ broad_switch : (b : Bool) (a : Atom) → is_broad a ≡ true → list_all is_bro
 broad_switch true a h = and_from (is_broad a) true h refl
 broad_switch false a h = refl
 
-broad_atoms : (names : List Name) (t : HType) → Broad t → list_all is_broad (plain_atoms names t) ≡ true
+broad_atoms : (names : List Name) (t : HType) → WholeKinds t → list_all is_broad (plain_atoms names t) ≡ true
 broad_atoms names t b =
     let null = atom t.null Null in
     let bools = bool_atoms t.no t.yes in
@@ -286,12 +259,13 @@ constraint_spelled t h = go (is_whole t.t) refl
     go : (b : Bool) → is_whole t.t ≡ b → AConstraint (type_tokens (if b then written_whole t.t.uninit else written_type_atoms (atoms_of t.classes t.t))) t
     go true w =
         let p = and_parts (type_fits t) (is_constraint t.t) h in
-        cell_constraint t.t.uninit t (broad t.t p.1).uninit (whole_is t (type_facts t p.0) w)
+        cell_constraint t.t.uninit t (constraint_parts t.t p.1).0.uninit (whole_is t (type_facts t p.0) w)
     go false w =
         let p = and_parts (type_fits t) (is_constraint t.t) h in
-        let b = broad t.t p.1 in
+        let c = constraint_parts t.t p.1 in
+        let b = c.0 in
         let xs = plain_atoms t.classes t.t in
         let same = all_plain t.classes t.t b in
         let part = subst (λ (l : List TypeAtom). TypePart 0 l 9 t.classes 0 never t.t) same (type_part t (type_facts t p.0)) in
         subst (λ (l : List TypeAtom). AConstraint (type_tokens (written_type_atoms l)) t) (sym same)
-        (plains_constraint xs t part (broad_atoms t.classes t.t b) b.there)
+        (plains_constraint xs t part (broad_atoms t.classes t.t b) c.1)

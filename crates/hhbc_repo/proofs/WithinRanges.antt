@@ -16,7 +16,9 @@ use Rattle.type_lattice.specs.declared.types.ObjPart.TheVariants as objs
 use Rattle.type_lattice.specs.declared.types.Leaf.{Leaf}
 use Rattle.type_lattice.specs.declared.types.HType.{HType}
 use Rattle.type_lattice.specs.Never.{no_ints, no_strs, no_objs, is_absent, is_never}
-use Rattle.type_lattice.specs.Whole.{all_ints, all_strs, all_objs, whole_leaf, whole_entry, whole_key}
+use Rattle.type_lattice.specs.Whole.{all_ints, all_strs, all_objs, whole_leaf, whole_key}
+use Rattle.type_lattice.specs.InRange.{where_there, is_proper, int_in_range, str_in_range, leaf_in_range, key_in_range, entry_in_range, type_in_range, obj_classes, vec_classes, dict_classes, classes_of}
+use Rattle.type_lattice.specs.Keep.{agree, no_one_int, no_one_str, no_one_class, is_all_keys, is_all_entries, is_constraint}
 use Rattle.hhbc_repo.specs.declared.parts.ArmParts.{ArmParts}
 use Rattle.hhbc_repo.specs.declared.parts.AssertParts.{AssertParts}
 use Rattle.hhbc_repo.specs.declared.parts.AssertParts.TheVariants as claims
@@ -42,10 +44,10 @@ use Rattle.hhbc_repo.specs.CodeSyntax as parts
 use Rattle.hhbc_repo.specs.LinkFaults.{Name, Whole, Place, names, place_in, dollar, class_names, class_of, known, locals_of, position_in, local_faults, class_faults, type_faults, stated_faults, assert_faults, key_local, operand_faults, instruction_faults, key_faults, base_faults, last_key, code_faults, position_faults, body_faults, faults}
 use Rattle.hhbc_repo.specs.Names.{distinct}
 use Rattle.hhbc_repo.specs.Resolved.{or_zero, named_class, class_at, obj_with, leaf_with, entry_with, type_with, resolved_type, local_number, label_number, class_number, resolved_assert, resolved_arm, resolved_operand, resolved_base, resolved_key, resolved_final, resolved_code, resolved_position, resolved_item, resolved_body, resolved}
-use Rattle.hhbc_repo.specs.TypeFits.{int_in_range, str_in_range, leaf_in_range, key_in_range, entry_in_range, where_there, type_in_range, obj_classes, vec_classes, dict_classes, classes_of, type_fits, agree, no_one_int, no_one_str, no_one_class, is_constraint, constraint_fits}
+use Rattle.hhbc_repo.specs.TypeFits.{type_fits, constraint_fits}
 use Rattle.hhbc_repo.specs.Fits.{is_index, is_label, has_no_text, has_text, arm_fits, text_arm_fits, arms_fit, text_arms_fit, operand_fits, operands_fit, base_fits, key_fits, query_key_fits, set_key_fits, change_key_fits, final_fits, code_fits, assert_fits, position_fits, item_fits, body_fits, class_fits, parts_fit}
 use Rattle.hhbc_repo.specs.Ranges.{few_iterators}
-use Rattle.hhbc_repo.specs.Within.{Bounds, bounds_of, type_within, constraint_within, target_within, arm_within, text_arm_within, arms_within, text_arms_within, local_within, operand_within, operands_within, base_within, key_within, appends, is_nullsafe, is_query, query_key_within, set_key_within, change_key_within, final_within, code_within, assert_within, position_within, in_limits, body_within}
+use Rattle.hhbc_repo.specs.Within.{Bounds, bounds_of, constraint_within, target_within, arm_within, text_arm_within, arms_within, text_arms_within, local_within, operand_within, operands_within, base_within, key_within, appends, is_nullsafe, is_query, query_key_within, set_key_within, change_key_within, final_within, code_within, assert_within, position_within, in_limits, body_within}
 use Rattle.hhbc_repo.proofs.NoFaults.{empty_left, empty_right, passes, differ, constant_class, method_class, faultless, passed}
 use Rattle.hhbc_repo.proofs.CanonicalItems.{label_among, linked_positions}
 use Rattle.hhbc_repo.proofs.Elements.{slice_seam}
@@ -148,18 +150,22 @@ module _ (f : ℕ → ℕ) where
       ∙ ap (λ c. rest (no_objs t.obj) (is_absent t.vec) c (is_absent (option_map (leaf_with f) t.keyset))) d
       ∙ ap (λ c. rest (no_objs t.obj) (is_absent t.vec) (is_absent t.dict) c) k
 
+  all_keys_same : (l : Leaf) → is_all_keys (leaf_with f l) ≡ is_all_keys l
+  all_keys_same l =
+      ap (λ (c : Bool). (not l.null && (not l.no && (not l.yes && (c && (not l.vec && (not l.dict && not l.keyset)))))) && whole_key l) (no_objs_same l.obj)
+
   constraint_same : (t : HType) → is_constraint (type_with f t) ≡ is_constraint t
   constraint_same t =
       let rest = λ (o v d k n : Bool). not t.uninit && (agree t.no t.yes && (no_one_int t.int && (no_one_str t.str && (o && (v && (d && (k && not n))))))) in
       let u = type_with f t in
       let v = there_same (leaf_with f) whole_leaf whole_same t.vec in
-      let d = there_same (entry_with f) whole_entry (λ e. ap (λ c. whole_key e.0 && c) (whole_same e.1)) t.dict in
-      let k = there_same (leaf_with f) whole_key (λ l. refl) t.keyset in
-      ap (λ c. rest c (where_there whole_leaf u.vec) (where_there whole_entry u.dict) (where_there whole_key u.keyset) (is_never u)) (no_one_same t.obj)
-      ∙ ap (λ c. rest (no_one_class t.obj) c (where_there whole_entry u.dict) (where_there whole_key u.keyset) (is_never u)) v
-      ∙ ap (λ c. rest (no_one_class t.obj) (where_there whole_leaf t.vec) c (where_there whole_key u.keyset) (is_never u)) d
-      ∙ ap (λ c. rest (no_one_class t.obj) (where_there whole_leaf t.vec) (where_there whole_entry t.dict) c (is_never u)) k
-      ∙ ap (λ c. rest (no_one_class t.obj) (where_there whole_leaf t.vec) (where_there whole_entry t.dict) (where_there whole_key t.keyset) c) (never_same t)
+      let d = there_same (entry_with f) is_all_entries (λ e. ap₂ (λ (a b : Bool). a && b) (all_keys_same e.0) (whole_same e.1)) t.dict in
+      let k = there_same (leaf_with f) is_all_keys all_keys_same t.keyset in
+      ap (λ c. rest c (where_there whole_leaf u.vec) (where_there is_all_entries u.dict) (where_there is_all_keys u.keyset) (is_never u)) (no_one_same t.obj)
+      ∙ ap (λ c. rest (no_one_class t.obj) c (where_there is_all_entries u.dict) (where_there is_all_keys u.keyset) (is_never u)) v
+      ∙ ap (λ c. rest (no_one_class t.obj) (where_there whole_leaf t.vec) c (where_there is_all_keys u.keyset) (is_never u)) d
+      ∙ ap (λ c. rest (no_one_class t.obj) (where_there whole_leaf t.vec) (where_there is_all_entries t.dict) c (is_never u)) k
+      ∙ ap (λ c. rest (no_one_class t.obj) (where_there whole_leaf t.vec) (where_there is_all_entries t.dict) (where_there is_all_keys t.keyset) c) (never_same t)
 
 -- ---- in a body of a repository
 
@@ -180,7 +186,7 @@ module _ (w : Whole) (owner : Name) where
       sym (ap₂ (λ (l : List Name) (k : ℕ). list_all (λ c. nat_lt c class_count) (map (class_at w l) (numbers k (length more)))) (append_assoc front (n ∷ []) more) longer) ∙ next in
       and_from (nat_lt here class_count) (list_all (λ c. nat_lt c class_count) later) first rest
 
-  type_links : (t : TypeParts) → type_fits t ≡ true → type_faults w owner t ≡ [] → type_within class_count (resolved_type w t) ≡ true
+  type_links : (t : TypeParts) → type_fits t ≡ true → type_faults w owner t ≡ [] → is_proper class_count (resolved_type w t) ≡ true
   type_links t h e =
       let f = class_at w t.classes in
       let u = type_with f t.t in
@@ -190,14 +196,14 @@ module _ (w : Whole) (owner : Name) where
       and_from (type_in_range u) (list_all (λ c. nat_lt c class_count) (classes_of u)) (range_same f t.t ∙ a.0)
       (ap (list_all (λ c. nat_lt c class_count)) (renumbered f t.t ∙ ap (map f) are) ∙ listed_within [] t.classes e)
 
-  stated_links : (o : Option TypeParts) → where_there type_fits o ≡ true → stated_faults w owner o ≡ [] → where_there (type_within class_count) (option_map (resolved_type w) o) ≡ true
+  stated_links : (o : Option TypeParts) → where_there type_fits o ≡ true → stated_faults w owner o ≡ [] → where_there (is_proper class_count) (option_map (resolved_type w) o) ≡ true
   stated_links None h e = refl
   stated_links (Some t) h e = type_links t h e
 
   constraint_links : (t : TypeParts) → constraint_fits t ≡ true → type_faults w owner t ≡ [] → constraint_within class_count (resolved_type w t) ≡ true
   constraint_links t h e =
       let a = and_parts (type_fits t) (is_constraint t.t) h in
-      and_from (type_within class_count (resolved_type w t)) (is_constraint (resolved_type w t)) (type_links t a.0 e) (constraint_same (class_at w t.classes) t.t ∙ a.1)
+      and_from (is_proper class_count (resolved_type w t)) (is_constraint (resolved_type w t)) (type_links t a.0 e) (constraint_same (class_at w t.classes) t.t ∙ a.1)
 
 module _ (w : Whole) (b : BodyParts) (owner : Name) where
   abbrev here : Place
@@ -396,11 +402,11 @@ module _ (w : Whole) (b : BodyParts) (owner : Name) where
   assert_links : (a : AssertParts) → assert_fits a ≡ true → assert_faults here a ≡ [] → assert_within bounds (resolved_assert w b a) ≡ true
   assert_links (claims.Local name t) h e =
       let p = and_parts (is_word name) (type_fits t) h in
-      and_from (local_within bounds (local_number b name)) (type_within (length (class_names w)) (resolved_type w t))
+      and_from (local_within bounds (local_number b name)) (is_proper (length (class_names w)) (resolved_type w t))
       (local_links name (empty_left (local_faults here name) (type_faults w owner t) e)) (type_links w owner t p.1 (empty_right (local_faults here name) (type_faults w owner t) e))
   assert_links (claims.Stack n t) h e =
       let p = and_parts (is_index n) (type_fits t) h in
-      and_from (is_index n) (type_within (length (class_names w)) (resolved_type w t)) p.0 (type_links w owner t p.1 e)
+      and_from (is_index n) (is_proper (length (class_names w)) (resolved_type w t)) p.0 (type_links w owner t p.1 e)
 
   asserts_link : (xs : List AssertParts) → list_all assert_fits xs ≡ true → flat_map (assert_faults here) xs ≡ [] → list_all (assert_within bounds) (map (resolved_assert w b) xs) ≡ true
   asserts_link [] h e = refl
@@ -444,7 +450,7 @@ body_links w b owner h e =
     let few_positions = s.positions in
     let params : length b.params ≤ length (locals_of b) = omega (arith, l) in
     let positions : length (flat_map (resolved_item w b) b.items) ≤ 65535 = omega (arith, n, few_positions) in
-    let within = where_there (type_within classes) c.stated && list_all (position_within (bounds_of classes c)) c.positions in
+    let within = where_there (is_proper classes) c.stated && list_all (position_within (bounds_of classes c)) c.positions in
     and_from (is_word c.name) (list_all is_word c.locals && (distinct c.locals && (in_limits c && within))) f.name
     (and_from (list_all is_word c.locals) (distinct c.locals && (in_limits c && within)) (all_both is_word b.params b.locals f.params f.locals)
     (and_from (distinct c.locals) (in_limits c && within) (differ reasons.DuplicateName owner dollar [] (locals_of b) g.locals)
@@ -452,7 +458,7 @@ body_links w b owner h e =
     (and_from (nat_le c.params (length c.locals)) (nat_le (length c.locals) 255 && (few_iterators c && nat_le (length c.positions) 65535)) (le-leb c.params (length c.locals) params)
     (and_from (nat_le (length c.locals) 255) (few_iterators c && nat_le (length c.positions) 65535) (le-leb (length c.locals) 255 few_locals)
     (and_from (few_iterators c) (nat_le (length c.positions) 65535) (le-leb c.iters 32 s.iters) (le-leb (length c.positions) 65535 positions))))
-    (and_from (where_there (type_within classes) c.stated) (list_all (position_within (bounds_of classes c)) c.positions)
+    (and_from (where_there (is_proper classes) c.stated) (list_all (position_within (bounds_of classes c)) c.positions)
     (stated_links w owner b.stated f.stated g.stated)
     (items_link w b owner b.items f.items g.positions)))))
 

@@ -9,6 +9,7 @@ use Rattle.hack_values.specs.declared.cell.Cell.TheVariants as cells
 use Rattle.hhbc_ops.specs.declared.words.ImmKind.{ImmKind}
 use Rattle.hhbc_ops.specs.declared.words.ImmKind.TheVariants as kinds
 use Rattle.hhbc_ops.specs.Ops.{kinds_of}
+use Rattle.type_lattice.specs.InRange.{where_there}
 use Rattle.hhbc_repo.specs.declared.repo.Const.{Const}
 use Rattle.hhbc_repo.specs.declared.parts.ArmParts.{ArmParts}
 use Rattle.hhbc_repo.specs.declared.parts.AssertParts.{AssertParts}
@@ -31,7 +32,7 @@ use Rattle.hhbc_repo.specs.declared.parts.MemberSeqParts.{MemberSeqParts}
 use Rattle.hhbc_repo.specs.declared.parts.PositionParts.{PositionParts}
 use Rattle.hhbc_repo.specs.declared.parts.PropertyParts.{PropertyParts}
 use Rattle.hhbc_repo.specs.CodeSyntax.{is_append, is_nullsafe, is_query, is_reserved}
-use Rattle.hhbc_repo.specs.TypeFits.{constraint_fits, type_fits, where_there}
+use Rattle.hhbc_repo.specs.TypeFits.{constraint_fits, type_fits}
 
 -- ---- operands
 

@@ -8,6 +8,8 @@ use Rattle.hhbc_ops.specs.declared.words.ImmKind.{ImmKind}
 use Rattle.hhbc_ops.specs.declared.words.ImmKind.TheVariants as kinds
 use Rattle.hhbc_ops.specs.Ops.{kinds_of}
 use Rattle.type_lattice.specs.declared.types.HType.{HType}
+use Rattle.type_lattice.specs.InRange.{where_there, is_proper}
+use Rattle.type_lattice.specs.Keep.{is_constraint}
 use Rattle.hhbc_repo.specs.declared.body.Body.{Body}
 use Rattle.hhbc_repo.specs.declared.body.Position.{Position}
 use Rattle.hhbc_repo.specs.declared.body.Assert.{Assert}
@@ -26,7 +28,6 @@ use Rattle.hhbc_repo.specs.declared.code.Final.{Final}
 use Rattle.hhbc_repo.specs.declared.code.Final.TheVariants as finals
 use Rattle.hhbc_repo.specs.Names.{distinct}
 use Rattle.hhbc_repo.specs.Ranges.{few_iterators}
-use Rattle.hhbc_repo.specs.TypeFits.{classes_of, is_constraint, type_in_range, where_there}
 use Rattle.hhbc_repo.specs.Fits.{has_no_text, has_text, is_index}
 
 -- how many locals, iterators and positions a body has, and classes its repository
@@ -41,11 +42,8 @@ bounds_of classes b = record { locals = length b.locals; iters = b.iters; positi
 
 -- ---- types
 
-abbrev pub type_within : ℕ → HType → Bool
-type_within classes t = type_in_range t && list_all (λ c. nat_lt c classes) (classes_of t)
-
 abbrev pub constraint_within : ℕ → HType → Bool
-constraint_within classes t = type_within classes t && is_constraint t
+constraint_within classes t = is_proper classes t && is_constraint t
 
 -- ---- operands
 
@@ -154,8 +152,8 @@ code_within b (codes.Member m) = member_within b m
 -- ---- bodies
 
 abbrev pub assert_within : Bounds → Assert → Bool
-assert_within b (asserts.Local l t) = local_within b l && type_within b.classes t
-assert_within b (asserts.Stack n t) = is_index n && type_within b.classes t
+assert_within b (asserts.Local l t) = local_within b l && is_proper b.classes t
+assert_within b (asserts.Stack n t) = is_index n && is_proper b.classes t
 
 abbrev pub position_within : Bounds → Position → Bool
 position_within b p = list_all (assert_within b) p.asserts && code_within b p.code
@@ -168,4 +166,4 @@ in_limits b = nat_le b.params (length b.locals) && (nat_le (length b.locals) 255
 abbrev pub body_within : ℕ → Body → Bool
 body_within classes b =
     is_word b.name && (list_all is_word b.locals && (distinct b.locals && (in_limits b
-    && (where_there (type_within classes) b.stated && list_all (position_within (bounds_of classes b)) b.positions))))
+    && (where_there (is_proper classes) b.stated && list_all (position_within (bounds_of classes b)) b.positions))))

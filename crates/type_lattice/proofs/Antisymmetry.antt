@@ -42,7 +42,7 @@ str_same strs.Any (strs.One t) h k = absurd h
 str_same strs.Any strs.Any h k = refl
 
 module _ (tree : Tree) (same : Antisymmetric tree) where
-  obj_same : (a b : ObjPart) → ObjLe tree a b → ObjLe tree b a → a ≡ b
+  pub obj_same : (a b : ObjPart) → ObjLe tree a b → ObjLe tree b a → a ≡ b
   obj_same objs.No objs.No h k = refl
   obj_same objs.No (objs.Exact d) h k = absurd k
   obj_same objs.No (objs.Sub d) h k = absurd k

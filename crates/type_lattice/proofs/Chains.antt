@@ -32,7 +32,7 @@ module _ (t : Tree) where
     pub chain_root : (c : ℕ) → parent_of t c ≡ None → chain t c ≡ c ∷ []
     chain_root c e = chain_step c ∙ rw e refl
 
-    has_first : (c x : ℕ) (xs : List ℕ) → c ≡ x → IsTrue (has c (x ∷ xs))
+    pub has_first : (c x : ℕ) (xs : List ℕ) → c ≡ x → IsTrue (has c (x ∷ xs))
     has_first c x xs e = let h : (c == x) ≡ true = eq-eqb c x e in rw h refl
 
     pub has_later : (c x : ℕ) (xs : List ℕ) → IsTrue (has c xs) → IsTrue (has c (x ∷ xs))

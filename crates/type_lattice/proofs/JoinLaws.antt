@@ -20,10 +20,10 @@ use Rattle.type_lattice.proofs.Chains.{nearest_above, nearest_least}
 use Rattle.type_lattice.proofs.OrderLaws.{below-refl, IntLe-top, StrLe-top, ObjLe-top, FlagLe-refl, IntLe-refl, StrLe-refl, ObjLe-refl, LeafLe-refl}
 
 -- f is above both, and below what is above both
-record Bounds {A : Type 0} (R : A → A → Type 0) (f : A → A → A) : Type 0 where
-  left : (a b : A) → R a (f a b)
-  right : (a b : A) → R b (f a b)
-  least : (a b c : A) → R a c → R b c → R (f a b) c
+pub record Bounds {A : Type 0} (R : A → A → Type 0) (f : A → A → A) : Type 0 where
+  pub left : (a b : A) → R a (f a b)
+  pub right : (a b : A) → R b (f a b)
+  pub least : (a b c : A) → R a c → R b c → R (f a b) c
 
 abbrev either : Bool → Bool → Bool
 either a b = a || b
@@ -196,10 +196,10 @@ module _ (t : Tree) (forest : Forest t) where
   obj_least (objs.Sub c) (objs.Sub d) (objs.Sub e) h k = near_least c d e h k
   obj_least a b u h k = absurd (search)
 
-  obj_bounds : Bounds (ObjLe t) (obj_join t)
+  pub obj_bounds : Bounds (ObjLe t) (obj_join t)
   obj_bounds = record { left = obj_left; right = obj_right; least = obj_least }
 
-  leaf_bounds : Bounds (LeafLe t) (leaf_join t)
+  pub leaf_bounds : Bounds (LeafLe t) (leaf_join t)
   leaf_bounds = record {
     left = λ a b. record {
       null = flags.left a.null b.null;
@@ -275,7 +275,7 @@ module _ (t : Tree) (forest : Forest t) where
   entries : Bounds (PartLe (EntryLe t)) (part_join (entry_join t))
   entries = part_bounds (λ e. (LeafLe-refl t e.0, LeafLe-refl t e.1)) entry_bounds
 
-  pub join_left : (a b : HType) → Le t a (join t a b)
+  join_left : (a b : HType) → Le t a (join t a b)
   join_left a b = record {
     uninit = flags.left a.uninit b.uninit;
     null = flags.left a.null b.null;
@@ -289,7 +289,7 @@ module _ (t : Tree) (forest : Forest t) where
     keyset = leaves.left a.keyset b.keyset;
   }
 
-  pub join_right : (a b : HType) → Le t b (join t a b)
+  join_right : (a b : HType) → Le t b (join t a b)
   join_right a b = record {
     uninit = flags.right a.uninit b.uninit;
     null = flags.right a.null b.null;
@@ -303,7 +303,7 @@ module _ (t : Tree) (forest : Forest t) where
     keyset = leaves.right a.keyset b.keyset;
   }
 
-  pub join_least : (a b c : HType) → Le t a c → Le t b c → Le t (join t a b) c
+  join_least : (a b c : HType) → Le t a c → Le t b c → Le t (join t a b) c
   join_least a b c h k = record {
     uninit = flags.least a.uninit b.uninit c.uninit h.uninit k.uninit;
     null = flags.least a.null b.null c.null h.null k.null;
@@ -316,3 +316,6 @@ module _ (t : Tree) (forest : Forest t) where
     dict = entries.least a.dict b.dict c.dict h.dict k.dict;
     keyset = leaves.least a.keyset b.keyset c.keyset h.keyset k.keyset;
   }
+
+  pub type_bounds : Bounds (Le t) (join t)
+  type_bounds = record { left = join_left; right = join_right; least = join_least }

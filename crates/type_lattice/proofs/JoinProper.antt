@@ -68,7 +68,7 @@ module _ (t : Tree) (forest : Forest t) where
       go None e = tt
       go (Some x) e = above_inside c x h (nearest_above t forest c d x e).0
 
-  obj_proper : (a b : ObjPart) → ProperObj t a → ProperObj t b → ProperObj t (obj_join t a b)
+  pub obj_proper : (a b : ObjPart) → ProperObj t a → ProperObj t b → ProperObj t (obj_join t a b)
   obj_proper objs.No b h k = k
   obj_proper (objs.Exact c) objs.No h k = h
   obj_proper (objs.Exact c) (objs.Exact d) h k = go (c == d)
@@ -84,14 +84,14 @@ module _ (t : Tree) (forest : Forest t) where
   obj_proper (objs.Sub c) objs.Any h k = tt
   obj_proper objs.Any b h k = tt
 
-  leaf_proper : (a b : Leaf) → ProperLeaf t a → ProperLeaf t b → ProperLeaf t (leaf_join t a b)
+  pub leaf_proper : (a b : Leaf) → ProperLeaf t a → ProperLeaf t b → ProperLeaf t (leaf_join t a b)
   leaf_proper a b h k = record {
     int = int_proper a.int b.int h.int k.int;
     str = str_proper a.str b.str h.str k.str;
     obj = obj_proper a.obj b.obj h.obj k.obj;
   }
 
-  key_proper : (a b : Leaf) → ProperKey a → ProperKey b → ProperKey (leaf_join t a b)
+  pub key_proper : (a b : Leaf) → ProperKey a → ProperKey b → ProperKey (leaf_join t a b)
   key_proper a b h k = record {
     null = off a.null b.null h.null k.null;
     no = off a.no b.no h.no k.no;

@@ -1,6 +1,8 @@
 pub mod Antisymmetry
+pub mod AtomLaws
 pub mod Chains
 pub mod Claimed
+pub mod Constraints
 pub mod Cycles
 pub mod Descent
 pub mod JoinLaws
@@ -10,7 +12,10 @@ pub mod Kept
 pub mod LiteralLaws
 pub mod Made
 pub mod Members
+pub mod Nearest
 pub mod NeverLaws
 pub mod OrderLaws
 pub mod RankLaws
+pub mod Ranges
+pub mod Singles
 pub mod WholeLaws

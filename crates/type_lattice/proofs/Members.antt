@@ -85,7 +85,7 @@ module _ (tree : Tree) (higher : Transitive tree) where
   obj_in-le d objs.Any (objs.Sub e) h m = absurd h
   obj_in-le d objs.Any objs.Any h m = refl
 
-  in_leaf-le : (heap : Heap) (c : Cell) (a b : Leaf) → LeafLe tree a b → in_leaf tree heap a c ≡ true → in_leaf tree heap b c ≡ true
+  pub in_leaf-le : (heap : Heap) (c : Cell) (a b : Leaf) → LeafLe tree a b → in_leaf tree heap a c ≡ true → in_leaf tree heap b c ≡ true
   in_leaf-le heap cells.Null a b h m = set_above _ _ h.null m
   in_leaf-le heap (cells.Bool true) a b h m = set_above _ _ h.yes m
   in_leaf-le heap (cells.Bool false) a b h m = set_above _ _ h.no m
@@ -96,7 +96,7 @@ module _ (tree : Tree) (higher : Transitive tree) where
   in_leaf-le heap (cells.Keyset elements) a b h m = set_above _ _ h.keyset m
   in_leaf-le heap (cells.Obj n) a b h m = obj_in-le (class_at heap n) _ _ h.obj m
 
-  key_in-le : (k : Key) (a b : Leaf) → LeafLe tree a b → key_in a k ≡ true → key_in b k ≡ true
+  pub key_in-le : (k : Key) (a b : Leaf) → LeafLe tree a b → key_in a k ≡ true → key_in b k ≡ true
   key_in-le (keys.Int i) a b h m = int_in-le i _ _ h.int m
   key_in-le (keys.Str s) a b h m = str_in-le s _ _ h.str m
 

@@ -14,21 +14,21 @@ split : (a b : Bool) → (a && b) ≡ true → (a ≡ true) × (b ≡ true)
 split true b h = (refl, h)
 split false b h = absurd (cc)
 
-unset : (b : Bool) → not b ≡ true → b ≡ false
+pub unset : (b : Bool) → not b ≡ true → b ≡ false
 unset true h = absurd (cc)
 unset false h = refl
 
-ints_none : (p : IntPart) → no_ints p ≡ true → p ≡ ints.No
+pub ints_none : (p : IntPart) → no_ints p ≡ true → p ≡ ints.No
 ints_none ints.No h = refl
 ints_none (ints.One i) h = absurd (cc)
 ints_none ints.Any h = absurd (cc)
 
-strs_none : (p : StrPart) → no_strs p ≡ true → p ≡ strs.No
+pub strs_none : (p : StrPart) → no_strs p ≡ true → p ≡ strs.No
 strs_none strs.No h = refl
 strs_none (strs.One s) h = absurd (cc)
 strs_none strs.Any h = absurd (cc)
 
-objs_none : (p : ObjPart) → no_objs p ≡ true → p ≡ objs.No
+pub objs_none : (p : ObjPart) → no_objs p ≡ true → p ≡ objs.No
 objs_none objs.No h = refl
 objs_none (objs.Exact c) h = absurd (cc)
 objs_none (objs.Sub c) h = absurd (cc)

@@ -130,7 +130,7 @@ module _ (tree : Tree) where
   }
 
   module _ (higher : Transitive tree) where
-    ObjLe-trans : (a b c : ObjPart) → ObjLe tree a b → ObjLe tree b c → ObjLe tree a c
+    pub ObjLe-trans : (a b c : ObjPart) → ObjLe tree a b → ObjLe tree b c → ObjLe tree a c
     ObjLe-trans objs.No b c h k = tt
     ObjLe-trans (objs.Exact a) objs.No c h k = absurd h
     ObjLe-trans (objs.Exact a) (objs.Exact b) objs.No h k = absurd k

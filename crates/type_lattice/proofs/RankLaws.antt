@@ -12,7 +12,8 @@ use Rattle.type_lattice.specs.declared.types.Leaf.{Leaf}
 use Rattle.type_lattice.specs.declared.types.HType.{HType}
 use Rattle.type_lattice.specs.Classes.{Tree, below, chain, Forest}
 use Rattle.type_lattice.specs.Order.{FlagLe, IntLe, StrLe, ObjLe, LeafLe, PartLe, EntryLe, Le}
-use Rattle.type_lattice.specs.Rank.{IsWithin, flag_rank, int_rank, str_rank, obj_rank, leaf_rank, part_rank, entry_rank, rank, highest}
+use Rattle.type_lattice.specs.Rank.{IsWithin, flag_rank, int_rank, str_rank, obj_rank, leaf_rank, part_rank, entry_rank, rank, highest_obj, highest_leaf, highest}
+use Rattle.type_lattice.specs.Laws.{IsRanked}
 use Rattle.type_lattice.proofs.Chains.{below_longer, chain_length}
 
 flag_rises : (a b : Bool) → FlagLe a b → flag_rank a ≤ flag_rank b
@@ -72,6 +73,15 @@ ten_equal h1 h2 h3 h4 h5 h6 h7 h8 h9 h10 x = (omega arith, omega arith, omega ar
 bound : (n : ℕ) → {a b c d e f g h i j : ℕ} → a ≤ 1 → b ≤ 1 → c ≤ 1 → d ≤ 1 → e ≤ 2 → f ≤ 2 → g ≤ n + 4 → h ≤ n + 15 → i ≤ 2 * n + 29 → j ≤ n + 15
     → a + b + c + d + e + f + g + h + i + j ≤ 5 * n + 71
 bound n h1 h2 h3 h4 h5 h6 h7 h8 h9 h10 = omega arith
+
+-- a rank that rises, and is equal only where what it ranks is, rises strictly
+strictly : {A : Type 0} (R : A → A → Type 0) (height : A → ℕ) → ((a b : A) → R a b → height a ≤ height b) → ((a b : A) → R a b → height a ≡ height b → a ≡ b)
+    → (a b : A) → R a b → (a ≡ b → ⊥) → height a < height b
+strictly R height rises equal a b h n = go (cases_lt (height a) (height b))
+  where
+    go : (height a < height b) ⊎ (height b ≤ height a) → height a < height b
+    go (inl k) = k
+    go (inr k) = absurd (n (equal a b h (let m = rises a b h in omega arith)))
 
 module _ (t : Tree) (forest : Forest t) (depth : ℕ) (within : IsWithin t depth) where
   above : (c d : ℕ) → IsTrue (below t c d) → (c ≡ d) ⊎ (depth + 3 - length (chain t c) < depth + 3 - length (chain t d))
@@ -183,14 +193,6 @@ module _ (t : Tree) (forest : Forest t) (depth : ℕ) (within : IsWithin t depth
       let keyset = part_equal (LeafLe t) (leaf_rank depth t) leaf_equal a.keyset b.keyset h.keyset r.9 in
       λ i. record { uninit = uninit i; null = null i; no = n i; yes = y i; int = int i; str = str i; obj = obj i; vec = vec i; dict = dict i; keyset = keyset i }
 
-  -- a strictly higher type has a strictly higher rank
-  pub rank_strict : (a b : HType) → Le t a b → (a ≡ b → ⊥) → rank depth t a < rank depth t b
-  rank_strict a b h n = go (cases_lt (rank depth t a) (rank depth t b))
-    where
-      go : (rank depth t a < rank depth t b) ⊎ (rank depth t b ≤ rank depth t a) → rank depth t a < rank depth t b
-      go (inl k) = k
-      go (inr k) = absurd (n (rank_equal a b h (let m = rank_rises a b h in omega arith)))
-
   flag_most : (a : Bool) → flag_rank a ≤ 1
   flag_most false = omega arith
   flag_most true = omega arith
@@ -225,12 +227,21 @@ module _ (t : Tree) (forest : Forest t) (depth : ℕ) (within : IsWithin t depth
   two_most None = omega arith
   two_most (Some a) = let k = leaf_most a.0 in let m = leaf_most a.1 in omega arith
 
-  pub rank_most : (a : HType) → rank depth t a ≤ highest depth
+  rank_most : (a : HType) → rank depth t a ≤ highest depth
   rank_most a =
       let k0 = flag_most a.uninit in let k1 = flag_most a.null in let k2 = flag_most a.no in let k3 = flag_most a.yes in
       let k4 = int_most a.int in let k5 = str_most a.str in let k6 = obj_most a.obj in
       let k7 = one_most a.vec in let k8 = two_most a.dict in let k9 = one_most a.keyset in
       bound (depth) k0 k1 k2 k3 k4 k5 k6 k7 k8 k9
+
+  pub types_ranked : IsRanked (Le t) (rank depth t) (highest depth)
+  types_ranked = record { strict = strictly (Le t) (rank depth t) rank_rises rank_equal; most = rank_most }
+
+  pub leaves_ranked : IsRanked (LeafLe t) (leaf_rank depth t) (highest_leaf depth)
+  leaves_ranked = record { strict = strictly (LeafLe t) (leaf_rank depth t) leaf_rises leaf_equal; most = leaf_most }
+
+  pub objects_ranked : IsRanked (ObjLe t) (obj_rank depth t) (highest_obj depth)
+  objects_ranked = record { strict = strictly (ObjLe t) (obj_rank depth t) obj_rises obj_equal; most = obj_most }
 
 -- no chain is longer than the number of classes and one
 pub chain_is_within : (t : Tree) → IsWithin t (length t)

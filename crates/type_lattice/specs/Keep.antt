@@ -1,15 +1,18 @@
 -- What a constraint keeps of a type.
-use Rattle.std.specs.Prelude.{◌≡◌, ℕ, false, Option, Some, None, ◌&&◌, if◌then◌else◌}
+use Rattle.std.specs.Prelude.{◌≡◌, ℕ, Bool, true, false, not, Option, Some, None, ◌&&◌, if◌then◌else◌}
 use Rattle.type_lattice.specs.declared.types.IntPart.{IntPart}
 use Rattle.type_lattice.specs.declared.types.IntPart.TheVariants as ints
 use Rattle.type_lattice.specs.declared.types.StrPart.{StrPart}
 use Rattle.type_lattice.specs.declared.types.StrPart.TheVariants as strs
 use Rattle.type_lattice.specs.declared.types.ObjPart.{ObjPart}
 use Rattle.type_lattice.specs.declared.types.ObjPart.TheVariants as objs
+use Rattle.type_lattice.specs.declared.types.Leaf.{Leaf}
 use Rattle.type_lattice.specs.declared.types.HType.{HType}
 use Rattle.type_lattice.specs.Classes.{Tree, below}
 use Rattle.type_lattice.specs.Types.{cell_leaf, key_leaf}
 use Rattle.type_lattice.specs.Never.{is_never}
+use Rattle.type_lattice.specs.Whole.{whole_leaf, whole_key}
+use Rattle.type_lattice.specs.InRange.{where_there, has_keys_alone}
 
 -- no int, or all
 abbrev pub IsIntKind : IntPart → Type 0
@@ -45,6 +48,42 @@ pub record IsConstraint (t : HType) : Type 0 where
   pub dict : IsKind (key_leaf, cell_leaf) t.dict
   pub keyset : IsKind key_leaf t.keyset
   pub some : is_never t ≡ false
+
+-- ---- the same as a test
+
+abbrev pub agree : Bool → Bool → Bool
+agree true b = b
+agree false b = not b
+
+abbrev pub no_one_int : IntPart → Bool
+no_one_int ints.No = true
+no_one_int (ints.One i) = false
+no_one_int ints.Any = true
+
+abbrev pub no_one_str : StrPart → Bool
+no_one_str strs.No = true
+no_one_str (strs.One s) = false
+no_one_str strs.Any = true
+
+abbrev pub no_one_class : ObjPart → Bool
+no_one_class objs.No = true
+no_one_class (objs.Exact c) = false
+no_one_class (objs.Sub c) = true
+no_one_class objs.Any = true
+
+-- all keys and nothing else
+abbrev pub is_all_keys : Leaf → Bool
+is_all_keys l = has_keys_alone l && whole_key l
+
+abbrev pub is_all_entries : Leaf × Leaf → Bool
+is_all_entries e = is_all_keys e.0 && whole_leaf e.1
+
+abbrev pub is_constraint : HType → Bool
+is_constraint t =
+    not t.uninit && (agree t.no t.yes && (no_one_int t.int && (no_one_str t.str && (no_one_class t.obj
+    && (where_there whole_leaf t.vec && (where_there is_all_entries t.dict && (where_there is_all_keys t.keyset && not (is_never t))))))))
+
+-- ---- what it keeps
 
 -- a part that the constraint has stays, and the others go
 abbrev pub int_keep : IntPart → IntPart → IntPart

@@ -1,4 +1,6 @@
+pub mod Atoms
 pub mod Classes
+pub mod InRange
 pub mod Join
 pub mod Keep
 pub mod Laws

@@ -88,7 +88,8 @@ ProperScalar (cells.Dict entries) = Unit {0}
 ProperScalar (cells.Keyset elements) = Unit {0}
 ProperScalar (cells.Obj n) = Unit {0}
 
--- the join of the types that are among these: above each, and below every proper type above each
+-- the join of the types that are among these: a proper type above each, and below every proper type above each
 pub record IsJoin (tree : Tree) (Among : HType → Type 0) (t : HType) : Type 0 where
+  pub proper : IsProper tree t
   pub above : (s : HType) → Among s → Le tree s t
   pub least : (u : HType) → IsProper tree u → ((s : HType) → Among s → Le tree s u) → Le tree t u

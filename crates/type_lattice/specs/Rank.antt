@@ -56,3 +56,11 @@ rank depth tree t =
 -- no type stands higher
 abbrev pub highest : ℕ → ℕ
 highest depth = 5 * depth + 71
+
+-- no leaf does
+abbrev pub highest_leaf : ℕ → ℕ
+highest_leaf depth = depth + 14
+
+-- and no part of objects
+abbrev pub highest_obj : ℕ → ℕ
+highest_obj depth = depth + 4

@@ -30,9 +30,12 @@ int_atoms ints.No = []
 int_atoms (ints.One i) = (codes "Int=" ++ signed_decimal i) ∷ []
 int_atoms ints.Any = codes "Int" ∷ []
 
+abbrev pub one_str : List ℕ → List ℕ
+one_str s = codes "Str=" ++ literal s
+
 abbrev pub str_atoms : StrPart → List (List ℕ)
 str_atoms strs.No = []
-str_atoms (strs.One s) = (codes "Str=" ++ literal (short_bytes s)) ∷ []
+str_atoms (strs.One s) = one_str (short_bytes s) ∷ []
 str_atoms strs.Any = codes "Str" ∷ []
 
 abbrev pub named : Option (List ℕ) → List ℕ
@@ -69,8 +72,14 @@ abbrev pub leaf_text : List (List ℕ) → Leaf → List ℕ
 leaf_text names l = if whole_leaf l then codes "Cell" else joined (leaf_atoms names l)
 
 -- keys are ints and strings alone
+abbrev pub key_atoms : Leaf → List (List ℕ)
+key_atoms k = int_atoms k.int ++ str_atoms k.str
+
 abbrev pub key_text : Leaf → List ℕ
-key_text k = joined (int_atoms k.int ++ str_atoms k.str)
+key_text k = joined (key_atoms k)
+
+abbrev pub entry_text : List (List ℕ) → Leaf × Leaf → List ℕ
+entry_text names e = key_text e.0 ++ (44 ∷ leaf_text names e.1)
 
 -- an atom, with what stands in angle brackets where that isn't whole
 abbrev pub bracketed : List ℕ → Bool → List ℕ → List (List ℕ)
@@ -83,7 +92,7 @@ vec_atoms names (Some l) = bracketed (codes "Vec") (whole_leaf l) (leaf_text nam
 
 abbrev pub dict_atoms : List (List ℕ) → Option (Leaf × Leaf) → List (List ℕ)
 dict_atoms names None = []
-dict_atoms names (Some d) = bracketed (codes "Dict") (whole_entry d) (key_text d.0 ++ (44 ∷ leaf_text names d.1))
+dict_atoms names (Some d) = bracketed (codes "Dict") (whole_entry d) (entry_text names d)
 
 abbrev pub keyset_atoms : Option Leaf → List (List ℕ)
 keyset_atoms None = []
@@ -99,6 +108,9 @@ container_atoms names t = vec_atoms names t.vec ++ (dict_atoms names t.dict ++ k
 abbrev pub cell_atoms : List (List ℕ) → HType → List (List ℕ)
 cell_atoms names t = if is_whole t then codes "Cell" ∷ [] else scalar_atoms names t ++ container_atoms names t
 
+abbrev pub type_atoms : List (List ℕ) → HType → List (List ℕ)
+type_atoms names t = atom t.uninit (codes "Uninit") ++ cell_atoms names t
+
 -- a type, given the names of all classes
 abbrev pub type_text : List (List ℕ) → HType → List ℕ
-type_text names t = joined (atom t.uninit (codes "Uninit") ++ cell_atoms names t)
+type_text names t = joined (type_atoms names t)

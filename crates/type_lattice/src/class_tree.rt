@@ -1,8 +1,8 @@
 //! The tree of classes.
 
-ghost use Rattle.std.specs.Prelude.{◌≡◌, true, false, ◌<◌, ◌^◌, IsTrue, IfSome, length, None, ◌⊎◌, ◌↔◌};
+ghost use Rattle.std.specs.Prelude.{◌≡◌, true, false, ◌<◌, ◌+◌, ◌^◌, IsTrue, IfSome, length, None, nat_lt, ◌⊎◌, ◌↔◌};
 ghost use Rattle.std.specs.List.{list_all};
-ghost use Rattle.type_lattice.specs.Classes.{Descends, HasStray, HasCycle, Forest, parent_of, below, nearest};
+ghost use Rattle.type_lattice.specs.Classes.{Descends, HasStray, HasCycle, Forest, parent_of, chain, below, nearest};
 ghost use Rattle.type_lattice.specs.Walks.{ends, inside, AllEnded, SomeUnended};
 
 use hack_values::Seq;
@@ -93,22 +93,45 @@ fn is_below(parents: &[Option<u32>], a: u32, b: u32) -> bool
     }
 }
 
-/// The nearest class that both are or descend from.
-#[tactic(auto, using(crate::proofs::Chains::nearest_here, crate::proofs::Chains::nearest_root, crate::proofs::Chains::nearest_up, crate::proofs::Chains::chain_shorter))]
+/// How many classes are above the class.
+#[tactic(auto, using(crate::proofs::Chains::chain_root, crate::proofs::Chains::chain_up, crate::proofs::Chains::chain_length))]
+fn depth_in(parents: &[Option<u32>], class: u32) -> usize
+    requires { Forest parents.now }
+    ensures { result + 1 ≡ length (chain parents.now class) }
+{
+    let mut at = class;
+    let mut depth = 0;
+    while let Some(parent) = parent_in(parents, at) {
+        at = parent;
+        depth += 1;
+    }
+    depth
+}
+
+/// The nearest class that both are or descend from. Goes up from the deeper of the two until they meet.
+#[tactic(auto, using(crate::proofs::Nearest::nearest_same, crate::proofs::Nearest::nearest_step, crate::proofs::Nearest::nearest_end, crate::proofs::Nearest::nearest_other_step, crate::proofs::Nearest::nearest_other_end, crate::proofs::Nearest::chain_one_shorter))]
 fn nearest_in(parents: &[Option<u32>], a: u32, b: u32) -> Option<u32>
     requires { Forest parents.now }
     ensures { result ≡ nearest parents.now a b }
 {
-    let mut at = a;
-    loop {
-        if is_below(parents, b, at) {
-            return Some(at);
-        }
-        match parent_in(parents, at) {
-            None => return None,
-            Some(parent) => at = parent,
+    let (mut at, mut other) = (a, b);
+    let (mut depth, mut other_depth) = (depth_in(parents, a), depth_in(parents, b));
+    'walk: while at != other {
+        if depth < other_depth {
+            match parent_in(parents, other) {
+                None => return None,
+                Some(parent) => other = parent,
+            }
+            other_depth -= 1;
+        } else {
+            match parent_in(parents, at) {
+                None => return None,
+                Some(parent) => at = parent,
+            }
+            depth -= 1;
         }
     }
+    Some(at)
 }
 
 impl ClassTree {
@@ -134,6 +157,13 @@ impl ClassTree {
         ensures { Forest self.now }
     {
         let _ = self.parents.as_slice();
+    }
+
+    /// Whether the class is one of the tree.
+    pub(crate) fn has(&self, class: u32) -> bool
+        ensures { result ≡ nat_lt class (length self.now) }
+    {
+        (class as usize) < self.parents.as_slice().len()
     }
 
     /// Whether a is b or descends from b.

@@ -1,10 +1,91 @@
-//! What a constraint keeps of a type.
+//! Constraints, and what they keep of a type.
 
-ghost use Rattle.std.specs.Prelude.{◌≡◌};
+ghost use Rattle.std.specs.Prelude.{◌≡◌, ◌↔◌, IsTrue};
+ghost use Rattle.type_lattice.specs.InRange.{where_there};
 ghost use Rattle.type_lattice.specs.Keep as kept;
+ghost use Rattle.type_lattice.specs.Whole.{whole_leaf};
 
 use crate::class_tree::ClassTree;
-use crate::types::{HType, IntPart, ObjPart, StrPart};
+use crate::proper::has_keys_alone;
+use crate::types::{HType, IntPart, Leaf, ObjPart, StrPart};
+
+fn has_no_one_int(part: IntPart) -> bool
+    ensures { result ≡ kept.no_one_int part }
+{
+    !matches!(part, IntPart::One(_))
+}
+
+fn has_no_one_str(part: StrPart) -> bool
+    ensures { result ≡ kept.no_one_str part }
+{
+    !matches!(part, StrPart::One(_))
+}
+
+fn has_no_one_class(part: ObjPart) -> bool
+    ensures { result ≡ kept.no_one_class part }
+{
+    !matches!(part, ObjPart::Exact(_))
+}
+
+/// Whether the two are the same.
+fn agree(no: bool, yes: bool) -> bool
+    ensures { result ≡ kept.agree no yes }
+{
+    no == yes
+}
+
+/// Whether the leaf holds every key and nothing else.
+fn is_all_keys(leaf: &Leaf) -> bool
+    ensures { result ≡ kept.is_all_keys leaf.now }
+{
+    has_keys_alone(leaf) && leaf.has_all_keys()
+}
+
+fn is_whole_vec(part: &Option<Leaf>) -> bool
+    ensures { result ≡ where_there whole_leaf part.now }
+{
+    match part {
+        Some(leaf) => leaf.is_whole(),
+        None => true,
+    }
+}
+
+fn is_whole_dict(part: &Option<(Leaf, Leaf)>) -> bool
+    ensures { result ≡ where_there kept.is_all_entries part.now }
+{
+    match part {
+        Some((key, value)) => is_all_keys(key) && value.is_whole(),
+        None => true,
+    }
+}
+
+fn is_whole_keyset(part: &Option<Leaf>) -> bool
+    ensures { result ≡ where_there kept.is_all_keys part.now }
+{
+    match part {
+        Some(key) => is_all_keys(key),
+        None => true,
+    }
+}
+
+impl HType {
+    /// Whether the type is a constraint: whole kinds of cells, one or more.
+    #[tactic(auto, using(crate::proofs::Constraints::constraint_is_tested))]
+    pub fn is_constraint(&self) -> bool
+        ensures value { result ≡ kept.is_constraint self.now }
+        ensures meaning { IsTrue result ↔ kept.IsConstraint self.now }
+    {
+        !self.uninit
+            && agree(self.no, self.yes)
+            && has_no_one_int(self.int)
+            && has_no_one_str(self.str)
+            && has_no_one_class(self.obj)
+            && is_whole_vec(&self.vec)
+            && is_whole_dict(&self.dict)
+            && is_whole_keyset(&self.keyset)
+            && !self.is_never()
+    }
+}
 
 /// The slots of the type that pass the constraint: the greatest type that is below both.
 pub fn keep(a: &HType, constraint: &HType, tree: &ClassTree) -> HType

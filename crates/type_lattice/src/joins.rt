@@ -25,7 +25,8 @@ pub fn join(a: &HType, b: &HType, tree: &ClassTree) -> HType
     }
 }
 
-fn leaf_join(a: &Leaf, b: &Leaf, tree: &ClassTree) -> Leaf
+/// The least leaf that both are below.
+pub fn leaf_join(a: &Leaf, b: &Leaf, tree: &ClassTree) -> Leaf
     ensures { result ≡ joined.leaf_join tree.now a.now b.now }
 {
     Leaf {
@@ -88,7 +89,9 @@ fn str_join(a: StrPart, b: StrPart) -> StrPart
     }
 }
 
-fn obj_join(a: ObjPart, b: ObjPart, tree: &ClassTree) -> ObjPart
+/// The least part of objects that both are below. Two different classes give the nearest class that both are or
+/// descend from, with those below it.
+pub fn obj_join(a: ObjPart, b: ObjPart, tree: &ClassTree) -> ObjPart
     ensures { result ≡ joined.obj_join tree.now a b }
 {
     match (a, b) {

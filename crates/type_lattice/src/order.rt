@@ -22,7 +22,8 @@ pub fn le(a: &HType, b: &HType, tree: &ClassTree) -> bool
         && part_le(&a.keyset, &b.keyset, tree)
 }
 
-fn leaf_le(a: &Leaf, b: &Leaf, tree: &ClassTree) -> bool
+/// Whether all that one leaf holds the other holds too, part by part.
+pub fn leaf_le(a: &Leaf, b: &Leaf, tree: &ClassTree) -> bool
     ensures { IsTrue result ↔ LeafLe tree.now a.now b.now }
 {
     flag_le(a.null, b.null)
@@ -86,7 +87,8 @@ fn str_le(a: StrPart, b: StrPart) -> bool
     }
 }
 
-fn obj_le(a: ObjPart, b: ObjPart, tree: &ClassTree) -> bool
+/// Whether the objects of one part are of the other too.
+pub fn obj_le(a: ObjPart, b: ObjPart, tree: &ClassTree) -> bool
     ensures { IsTrue result ↔ ObjLe tree.now a b }
 {
     match (a, b) {

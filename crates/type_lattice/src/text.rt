@@ -1,63 +1,14 @@
 //! The canonical text of a type.
 
-ghost use Rattle.std.specs.Prelude.{◌≡◌, ◌++◌, [], ◌∷◌, IfOk, OnOk};
+ghost use Rattle.std.specs.Prelude.{◌≡◌, ◌++◌, [], ◌∷◌, ◌<◌, IfOk, OnOk, true};
 ghost use Rattle.std.specs.List.{flat_map};
+ghost use Rattle.type_lattice.specs.Atoms.{Adds, bar};
 ghost use Rattle.type_lattice.specs.TypeText as text;
-ghost use Rattle.type_lattice.specs.Whole as whole;
 
-use crate::types::{HType, IntPart, Leaf, ObjPart, Short, StrPart};
-use hack_values::{NoMemory, Seq, Text, push_literal};
+use crate::types::{HType, IntPart, Leaf, ObjPart, StrPart};
+use hack_values::{NoMemory, Text, push_literal};
+use itoa::Buffer;
 use std::alloc::Global;
-
-/// Adds an atom where it is there.
-fn put(alloc: Global, atoms: &mut Seq<Text>, there: bool, name: &[u8]) -> Result<(), NoMemory>
-    ensures { OnOk result (atoms.new ≡ atoms.old ++ text.atom there name.now) }
-{
-    if there {
-        atoms.push(Text::from_bytes(alloc, name)?)?;
-    }
-    Ok(())
-}
-
-fn put_bools(alloc: Global, atoms: &mut Seq<Text>, no: bool, yes: bool) -> Result<(), NoMemory>
-    ensures { OnOk result (atoms.new ≡ atoms.old ++ text.bool_atoms no yes) }
-{
-    match (no, yes) {
-        (true, true) => put(alloc, atoms, true, b"Bool"),
-        (true, false) => put(alloc, atoms, true, b"False"),
-        (false, true) => put(alloc, atoms, true, b"True"),
-        (false, false) => Ok(()),
-    }
-}
-
-fn put_int(alloc: Global, atoms: &mut Seq<Text>, part: IntPart) -> Result<(), NoMemory>
-    ensures { OnOk result (atoms.new ≡ atoms.old ++ text.int_atoms part) }
-{
-    match part {
-        IntPart::No => Ok(()),
-        IntPart::One(number) => {
-            let mut atom = Text::from_bytes(alloc, b"Int=")?;
-            let digits = format!(in alloc; "{number}")?;
-            atom.append(digits.as_bytes())?;
-            atoms.push(atom)
-        }
-        IntPart::Any => put(alloc, atoms, true, b"Int"),
-    }
-}
-
-fn put_str(alloc: Global, atoms: &mut Seq<Text>, part: &StrPart) -> Result<(), NoMemory>
-    ensures { OnOk result (atoms.new ≡ atoms.old ++ text.str_atoms part.now) }
-{
-    match part {
-        StrPart::No => Ok(()),
-        StrPart::One(short) => {
-            let mut atom = Text::from_bytes(alloc, b"Str=")?;
-            push_literal(&mut atom, short.as_bytes())?;
-            atoms.push(atom)
-        }
-        StrPart::Any => put(alloc, atoms, true, b"Str"),
-    }
-}
 
 fn push_class(out: &mut Text, names: &[Text], class: u32) -> Result<(), NoMemory>
     ensures { OnOk result (out.new ≡ out.old ++ text.class_name names.now class) }
@@ -68,290 +19,257 @@ fn push_class(out: &mut Text, names: &[Text], class: u32) -> Result<(), NoMemory
     }
 }
 
-/// Adds a word and the name of a class.
-fn put_class(
-    alloc: Global,
-    atoms: &mut Seq<Text>,
-    word: &[u8],
-    names: &[Text],
-    class: u32,
-) -> Result<(), NoMemory>
-    ensures { OnOk result (atoms.new ≡ atoms.old ++ (word.now ++ text.class_name names.now class) ∷ []) }
+/// Adds a bar, but before the first atom, and the front of an atom.
+fn begin(out: &mut Text, first: bool, front: &[u8]) -> Result<(), NoMemory>
+    ensures { OnOk result (out.new ≡ out.old ++ bar first ++ front.now) }
 {
-    let mut atom = Text::from_bytes(alloc, word)?;
-    push_class(&mut atom, names, class)?;
-    atoms.push(atom)
+    if !first {
+        out.append(b"|")?;
+    }
+    out.append(front)
 }
 
-fn put_obj(
-    alloc: Global,
-    atoms: &mut Seq<Text>,
-    names: &[Text],
-    part: ObjPart,
-) -> Result<(), NoMemory>
-    ensures { OnOk result (atoms.new ≡ atoms.old ++ text.obj_atoms names.now part) }
+// Each function below takes whether its first atom is the first of all, and tells whether the next one still is.
+
+/// Adds an atom where it is there.
+fn put(out: &mut Text, first: bool, there: bool, name: &[u8]) -> Result<bool, NoMemory>
+    ensures { IfOk result (λ still. Adds first (text.atom there name.now) out.old out.new still) }
 {
-    match part {
-        ObjPart::No => Ok(()),
-        ObjPart::Exact(class) => put_class(alloc, atoms, b"Obj=", names, class),
-        ObjPart::Sub(class) => put_class(alloc, atoms, b"Obj<=", names, class),
-        ObjPart::Any => put(alloc, atoms, true, b"Obj"),
+    if !there {
+        return Ok(first);
+    }
+    begin(out, first, name)?;
+    Ok(false)
+}
+
+fn put_bools(out: &mut Text, first: bool, no: bool, yes: bool) -> Result<bool, NoMemory>
+    ensures { IfOk result (λ still. Adds first (text.bool_atoms no yes) out.old out.new still) }
+{
+    match (no, yes) {
+        (true, true) => put(out, first, true, b"Bool"),
+        (true, false) => put(out, first, true, b"False"),
+        (false, true) => put(out, first, true, b"True"),
+        (false, false) => Ok(first),
     }
 }
 
-fn push_barred(out: &mut Text, atoms: &[Text]) -> Result<(), NoMemory>
-    ensures { OnOk result (out.new ≡ out.old ++ flat_map text.barred atoms.now) }
+fn put_one_int(out: &mut Text, first: bool, number: i64) -> Result<bool, NoMemory>
+    ensures { IfOk result (λ still. Adds first (text.int_atoms (IntPart.One number)) out.old out.new still) }
 {
-    for atom in atoms {
-        out.append(b"|")?;
-        out.append(atom.bytes())?;
+    begin(out, first, b"Int=")?;
+    out.append(Buffer::new().format(number).as_bytes())?;
+    Ok(false)
+}
+
+fn put_int(out: &mut Text, first: bool, part: IntPart) -> Result<bool, NoMemory>
+    ensures { IfOk result (λ still. Adds first (text.int_atoms part) out.old out.new still) }
+{
+    match part {
+        IntPart::No => Ok(first),
+        IntPart::One(number) => put_one_int(out, first, number),
+        IntPart::Any => put(out, first, true, b"Int"),
+    }
+}
+
+fn put_one_str(out: &mut Text, first: bool, bytes: &[u8]) -> Result<bool, NoMemory>
+    ensures { IfOk result (λ still. Adds first (text.one_str bytes.now ∷ []) out.old out.new still) }
+{
+    begin(out, first, b"Str=")?;
+    push_literal(out, bytes)?;
+    Ok(false)
+}
+
+fn put_str(out: &mut Text, first: bool, part: &StrPart) -> Result<bool, NoMemory>
+    ensures { IfOk result (λ still. Adds first (text.str_atoms part.now) out.old out.new still) }
+{
+    match part {
+        StrPart::No => Ok(first),
+        StrPart::One(short) => put_one_str(out, first, short.as_bytes()),
+        StrPart::Any => put(out, first, true, b"Str"),
+    }
+}
+
+/// Adds a word and the name of a class.
+fn put_class(
+    out: &mut Text,
+    first: bool,
+    word: &[u8],
+    names: &[Text],
+    class: u32,
+) -> Result<bool, NoMemory>
+    ensures { IfOk result (λ still. Adds first ((word.now ++ text.class_name names.now class) ∷ []) out.old out.new still) }
+{
+    begin(out, first, word)?;
+    push_class(out, names, class)?;
+    Ok(false)
+}
+
+fn put_obj(out: &mut Text, first: bool, names: &[Text], part: ObjPart) -> Result<bool, NoMemory>
+    ensures { IfOk result (λ still. Adds first (text.obj_atoms names.now part) out.old out.new still) }
+{
+    match part {
+        ObjPart::No => Ok(first),
+        ObjPart::Exact(class) => put_class(out, first, b"Obj=", names, class),
+        ObjPart::Sub(class) => put_class(out, first, b"Obj<=", names, class),
+        ObjPart::Any => put(out, first, true, b"Obj"),
+    }
+}
+
+fn put_kinds(out: &mut Text, first: bool, leaf: &Leaf) -> Result<bool, NoMemory>
+    ensures { IfOk result (λ still. Adds first (text.kind_atoms leaf.now) out.old out.new still) }
+{
+    let first = put(out, first, leaf.vec, b"Vec")?;
+    let first = put(out, first, leaf.dict, b"Dict")?;
+    put(out, first, leaf.keyset, b"Keyset")
+}
+
+fn put_leaf(out: &mut Text, names: &[Text], leaf: &Leaf) -> Result<bool, NoMemory>
+    ensures { IfOk result (λ still. Adds true (text.leaf_atoms names.now leaf.now) out.old out.new still) }
+{
+    let first = put(out, true, leaf.null, b"Null")?;
+    let first = put_bools(out, first, leaf.no, leaf.yes)?;
+    let first = put_int(out, first, leaf.int)?;
+    let first = put_str(out, first, &leaf.str)?;
+    let first = put_obj(out, first, names, leaf.obj)?;
+    put_kinds(out, first, leaf)
+}
+
+fn put_key(out: &mut Text, key: &Leaf) -> Result<bool, NoMemory>
+    ensures { IfOk result (λ still. Adds true (text.key_atoms key.now) out.old out.new still) }
+{
+    let first = put_int(out, true, key.int)?;
+    put_str(out, first, &key.str)
+}
+
+fn push_leaf(out: &mut Text, names: &[Text], leaf: &Leaf) -> Result<(), NoMemory>
+    ensures { OnOk result (out.new ≡ out.old ++ text.leaf_text names.now leaf.now) }
+{
+    if leaf.is_whole() {
+        return out.append(b"Cell");
+    }
+    if put_leaf(out, names, leaf)? {
+        out.append(b"Never")?;
     }
     Ok(())
 }
 
-/// Adds atoms with bars between them.
-fn push_joined(out: &mut Text, atoms: &[Text]) -> Result<(), NoMemory>
-    ensures { OnOk result (out.new ≡ out.old ++ text.joined atoms.now) }
-{
-    match atoms {
-        [] => out.append(b"Never"),
-        [first, more @ ..] => {
-            out.append(first.bytes())?;
-            push_barred(out, more)
-        }
-    }
-}
-
-fn int_is_any(part: IntPart) -> bool
-    ensures { result ≡ whole.all_ints part }
-{
-    matches!(part, IntPart::Any)
-}
-
-fn str_is_any(part: StrPart) -> bool
-    ensures { result ≡ whole.all_strs part }
-{
-    matches!(part, StrPart::Any)
-}
-
-fn obj_is_any(part: ObjPart) -> bool
-    ensures { result ≡ whole.all_objs part }
-{
-    matches!(part, ObjPart::Any)
-}
-
-/// Whether the leaf holds every cell.
-fn is_whole(leaf: &Leaf) -> bool
-    ensures { result ≡ whole.whole_leaf leaf.now }
-{
-    leaf.null
-        && leaf.no
-        && leaf.yes
-        && int_is_any(leaf.int)
-        && str_is_any(leaf.str)
-        && obj_is_any(leaf.obj)
-        && leaf.vec
-        && leaf.dict
-        && leaf.keyset
-}
-
-/// Whether the leaf holds every key.
-fn is_whole_key(leaf: &Leaf) -> bool
-    ensures { result ≡ whole.whole_key leaf.now }
-{
-    int_is_any(leaf.int) && str_is_any(leaf.str)
-}
-
-fn put_kinds(alloc: Global, atoms: &mut Seq<Text>, leaf: &Leaf) -> Result<(), NoMemory>
-    ensures { OnOk result (atoms.new ≡ atoms.old ++ text.kind_atoms leaf.now) }
-{
-    put(alloc, atoms, leaf.vec, b"Vec")?;
-    put(alloc, atoms, leaf.dict, b"Dict")?;
-    put(alloc, atoms, leaf.keyset, b"Keyset")
-}
-
-fn leaf_atoms(alloc: Global, names: &[Text], leaf: &Leaf) -> Result<Seq<Text>, NoMemory>
-    ensures { IfOk result (λ atoms. atoms ≡ text.leaf_atoms names.now leaf.now) }
-{
-    let mut atoms = Seq::new(alloc);
-    put(alloc, &mut atoms, leaf.null, b"Null")?;
-    put_bools(alloc, &mut atoms, leaf.no, leaf.yes)?;
-    put_int(alloc, &mut atoms, leaf.int)?;
-    put_str(alloc, &mut atoms, &leaf.str)?;
-    put_obj(alloc, &mut atoms, names, leaf.obj)?;
-    put_kinds(alloc, &mut atoms, leaf)?;
-    Ok(atoms)
-}
-
-fn push_leaf(alloc: Global, out: &mut Text, names: &[Text], leaf: &Leaf) -> Result<(), NoMemory>
-    ensures { OnOk result (out.new ≡ out.old ++ text.leaf_text names.now leaf.now) }
-{
-    if is_whole(leaf) {
-        out.append(b"Cell")
-    } else {
-        let atoms = leaf_atoms(alloc, names, leaf)?;
-        push_joined(out, atoms.as_slice())
-    }
-}
-
-fn push_key(alloc: Global, out: &mut Text, key: &Leaf) -> Result<(), NoMemory>
+fn push_key(out: &mut Text, key: &Leaf) -> Result<(), NoMemory>
     ensures { OnOk result (out.new ≡ out.old ++ text.key_text key.now) }
 {
-    let mut atoms = Seq::new(alloc);
-    put_int(alloc, &mut atoms, key.int)?;
-    put_str(alloc, &mut atoms, &key.str)?;
-    push_joined(out, atoms.as_slice())
-}
-
-/// Adds an atom, with what stands in angle brackets where that isn't whole.
-fn put_bracketed(
-    alloc: Global,
-    atoms: &mut Seq<Text>,
-    name: &[u8],
-    whole: bool,
-    inner: &[u8],
-) -> Result<(), NoMemory>
-    ensures { OnOk result (atoms.new ≡ atoms.old ++ text.bracketed name.now whole inner.now) }
-{
-    let mut atom = Text::from_bytes(alloc, name)?;
-    if !whole {
-        atom.append(b"<")?;
-        atom.append(inner)?;
-        atom.append(b">")?;
+    if put_key(out, key)? {
+        out.append(b"Never")?;
     }
-    atoms.push(atom)
+    Ok(())
 }
 
 fn put_vec(
-    alloc: Global,
-    atoms: &mut Seq<Text>,
+    out: &mut Text,
+    first: bool,
     names: &[Text],
     part: &Option<Leaf>,
-) -> Result<(), NoMemory>
-    ensures { OnOk result (atoms.new ≡ atoms.old ++ text.vec_atoms names.now part.now) }
+) -> Result<bool, NoMemory>
+    ensures { IfOk result (λ still. Adds first (text.vec_atoms names.now part.now) out.old out.new still) }
 {
     let Some(leaf) = part else {
-        return Ok(());
+        return Ok(first);
     };
-    let mut inner = Text::from_bytes(alloc, b"")?;
-    push_leaf(alloc, &mut inner, names, leaf)?;
-    put_bracketed(alloc, atoms, b"Vec", is_whole(leaf), inner.bytes())
+    if leaf.is_whole() {
+        return put(out, first, true, b"Vec");
+    }
+    begin(out, first, b"Vec<")?;
+    push_leaf(out, names, leaf)?;
+    out.append(b">")?;
+    Ok(false)
+}
+
+/// Adds the key and the value of a dict, with a comma between them.
+fn push_entry(out: &mut Text, names: &[Text], key: &Leaf, value: &Leaf) -> Result<(), NoMemory>
+    ensures { OnOk result (out.new ≡ out.old ++ text.entry_text names.now (key.now, value.now)) }
+{
+    push_key(out, key)?;
+    out.append(b",")?;
+    push_leaf(out, names, value)
 }
 
 fn put_dict(
-    alloc: Global,
-    atoms: &mut Seq<Text>,
+    out: &mut Text,
+    first: bool,
     names: &[Text],
     part: &Option<(Leaf, Leaf)>,
-) -> Result<(), NoMemory>
-    ensures { OnOk result (atoms.new ≡ atoms.old ++ text.dict_atoms names.now part.now) }
+) -> Result<bool, NoMemory>
+    ensures { IfOk result (λ still. Adds first (text.dict_atoms names.now part.now) out.old out.new still) }
 {
     let Some((key, value)) = part else {
-        return Ok(());
+        return Ok(first);
     };
-    let mut inner = Text::from_bytes(alloc, b"")?;
-    push_key(alloc, &mut inner, key)?;
-    inner.append(b",")?;
-    push_leaf(alloc, &mut inner, names, value)?;
-    let whole = is_whole_key(key) && is_whole(value);
-    put_bracketed(alloc, atoms, b"Dict", whole, inner.bytes())
+    if key.has_all_keys() && value.is_whole() {
+        return put(out, first, true, b"Dict");
+    }
+    begin(out, first, b"Dict<")?;
+    push_entry(out, names, key, value)?;
+    out.append(b">")?;
+    Ok(false)
 }
 
-fn put_keyset(alloc: Global, atoms: &mut Seq<Text>, part: &Option<Leaf>) -> Result<(), NoMemory>
-    ensures { OnOk result (atoms.new ≡ atoms.old ++ text.keyset_atoms part.now) }
+fn put_keyset(out: &mut Text, first: bool, part: &Option<Leaf>) -> Result<bool, NoMemory>
+    ensures { IfOk result (λ still. Adds first (text.keyset_atoms part.now) out.old out.new still) }
 {
     let Some(key) = part else {
-        return Ok(());
+        return Ok(first);
     };
-    let mut inner = Text::from_bytes(alloc, b"")?;
-    push_key(alloc, &mut inner, key)?;
-    put_bracketed(alloc, atoms, b"Keyset", is_whole_key(key), inner.bytes())
-}
-
-fn vec_is_whole(part: &Option<Leaf>) -> bool
-    ensures { result ≡ whole.part_is whole.whole_leaf part.now }
-{
-    match part {
-        Some(leaf) => is_whole(leaf),
-        None => false,
+    if key.has_all_keys() {
+        return put(out, first, true, b"Keyset");
     }
+    begin(out, first, b"Keyset<")?;
+    push_key(out, key)?;
+    out.append(b">")?;
+    Ok(false)
 }
 
-fn dict_is_whole(part: &Option<(Leaf, Leaf)>) -> bool
-    ensures { result ≡ whole.part_is whole.whole_entry part.now }
+fn put_scalars(out: &mut Text, first: bool, names: &[Text], t: &HType) -> Result<bool, NoMemory>
+    ensures { IfOk result (λ still. Adds first (text.scalar_atoms names.now t.now) out.old out.new still) }
 {
-    match part {
-        Some((key, value)) => is_whole_key(key) && is_whole(value),
-        None => false,
+    let first = put(out, first, t.null, b"Null")?;
+    let first = put_bools(out, first, t.no, t.yes)?;
+    let first = put_int(out, first, t.int)?;
+    let first = put_str(out, first, &t.str)?;
+    put_obj(out, first, names, t.obj)
+}
+
+fn put_containers(out: &mut Text, first: bool, names: &[Text], t: &HType) -> Result<bool, NoMemory>
+    ensures { IfOk result (λ still. Adds first (text.container_atoms names.now t.now) out.old out.new still) }
+{
+    let first = put_vec(out, first, names, &t.vec)?;
+    let first = put_dict(out, first, names, &t.dict)?;
+    put_keyset(out, first, &t.keyset)
+}
+
+fn put_cells(out: &mut Text, first: bool, names: &[Text], t: &HType) -> Result<bool, NoMemory>
+    ensures { IfOk result (λ still. Adds first (text.cell_atoms names.now t.now) out.old out.new still) }
+{
+    if t.has_all_cells() {
+        return put(out, first, true, b"Cell");
     }
+    let first = put_scalars(out, first, names, t)?;
+    put_containers(out, first, names, t)
 }
 
-fn keyset_is_whole(part: &Option<Leaf>) -> bool
-    ensures { result ≡ whole.part_is whole.whole_key part.now }
+fn put_type(out: &mut Text, names: &[Text], t: &HType) -> Result<bool, NoMemory>
+    ensures { IfOk result (λ still. Adds true (text.type_atoms names.now t.now) out.old out.new still) }
 {
-    match part {
-        Some(key) => is_whole_key(key),
-        None => false,
+    let first = put(out, true, t.uninit, b"Uninit")?;
+    put_cells(out, first, names, t)
+}
+
+/// Puts the canonical text of a type at the end of `out`. `names` has the name of each class at its number; a
+/// class past its end is written without a name. Where there was no memory, some front of the text may stand there.
+pub fn push_type(out: &mut Text, t: &HType, names: &[Text]) -> Result<(), NoMemory>
+    ensures { OnOk result (out.new ≡ out.old ++ text.type_text names.now t.now) }
+{
+    if put_type(out, names, t)? {
+        out.append(b"Never")?;
     }
-}
-
-/// Whether the type has every part but Uninit, each whole.
-fn has_all_cells(t: &HType) -> bool
-    ensures { result ≡ whole.is_whole t.now }
-{
-    t.null
-        && t.no
-        && t.yes
-        && int_is_any(t.int)
-        && str_is_any(t.str)
-        && obj_is_any(t.obj)
-        && vec_is_whole(&t.vec)
-        && dict_is_whole(&t.dict)
-        && keyset_is_whole(&t.keyset)
-}
-
-fn put_scalars(
-    alloc: Global,
-    atoms: &mut Seq<Text>,
-    names: &[Text],
-    t: &HType,
-) -> Result<(), NoMemory>
-    ensures { OnOk result (atoms.new ≡ atoms.old ++ text.scalar_atoms names.now t.now) }
-{
-    put(alloc, atoms, t.null, b"Null")?;
-    put_bools(alloc, atoms, t.no, t.yes)?;
-    put_int(alloc, atoms, t.int)?;
-    put_str(alloc, atoms, &t.str)?;
-    put_obj(alloc, atoms, names, t.obj)
-}
-
-fn put_containers(
-    alloc: Global,
-    atoms: &mut Seq<Text>,
-    names: &[Text],
-    t: &HType,
-) -> Result<(), NoMemory>
-    ensures { OnOk result (atoms.new ≡ atoms.old ++ text.container_atoms names.now t.now) }
-{
-    put_vec(alloc, atoms, names, &t.vec)?;
-    put_dict(alloc, atoms, names, &t.dict)?;
-    put_keyset(alloc, atoms, &t.keyset)
-}
-
-fn put_cells(
-    alloc: Global,
-    atoms: &mut Seq<Text>,
-    names: &[Text],
-    t: &HType,
-) -> Result<(), NoMemory>
-    ensures { OnOk result (atoms.new ≡ atoms.old ++ text.cell_atoms names.now t.now) }
-{
-    if has_all_cells(t) {
-        put(alloc, atoms, true, b"Cell")
-    } else {
-        put_scalars(alloc, atoms, names, t)?;
-        put_containers(alloc, atoms, names, t)
-    }
+    Ok(())
 }
 
 /// The canonical text of a type. `names` has the name of each class at its number; a class past its end is
@@ -359,10 +277,7 @@ fn put_cells(
 pub fn type_text(alloc: Global, t: &HType, names: &[Text]) -> Result<Text, NoMemory>
     ensures { IfOk result (λ out. out ≡ text.type_text names.now t.now) }
 {
-    let mut atoms = Seq::new(alloc);
-    put(alloc, &mut atoms, t.uninit, b"Uninit")?;
-    put_cells(alloc, &mut atoms, names, t)?;
     let mut out = Text::from_bytes(alloc, b"")?;
-    push_joined(&mut out, atoms.as_slice())?;
+    push_type(&mut out, t, names)?;
     Ok(out)
 }

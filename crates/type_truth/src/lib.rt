@@ -3,4 +3,4 @@
 
 mod member;
 
-pub use member::is_member;
+pub use member::{in_leaf, is_member, key_in, obj_in};

@@ -36,8 +36,8 @@ fn cell_in(cell: &Cell, t: &HType, heap: &Heap, tree: &ClassTree) -> bool
     }
 }
 
-/// A cell in a container. A container in it is of its part, whatever it holds.
-fn in_leaf(cell: &Cell, leaf: &Leaf, heap: &Heap, tree: &ClassTree) -> bool
+/// Whether a container whose leaf this is may hold the cell. A container in it is of its part, whatever it holds.
+pub fn in_leaf(cell: &Cell, leaf: &Leaf, heap: &Heap, tree: &ClassTree) -> bool
     ensures { result ≡ member.in_leaf tree.now heap.now leaf.now cell.now }
 {
     match cell {
@@ -53,7 +53,8 @@ fn in_leaf(cell: &Cell, leaf: &Leaf, heap: &Heap, tree: &ClassTree) -> bool
     }
 }
 
-fn key_in(key: &Key, leaf: &Leaf) -> bool
+/// Whether a dict or a keyset whose keys these are may hold the key.
+pub fn key_in(key: &Key, leaf: &Leaf) -> bool
     ensures { result ≡ member.key_in leaf.now key.now }
 {
     match key {
@@ -92,7 +93,8 @@ fn class_at(heap: &Heap, number: u32) -> Option<u32>
     }
 }
 
-fn obj_in(class: Option<u32>, part: ObjPart, tree: &ClassTree) -> bool
+/// Whether an object of the class is of the part. One that isn't in the heap has no class.
+pub fn obj_in(class: Option<u32>, part: ObjPart, tree: &ClassTree) -> bool
     ensures { result ≡ member.obj_in tree.now class part }
 {
     match (part, class) {
