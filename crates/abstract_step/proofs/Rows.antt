@@ -13,6 +13,7 @@ use Rattle.type_lattice.specs.Types.{initialised, never}
 use Rattle.type_lattice.specs.Member.{cell_in, is_member, AreMembers}
 use Rattle.type_lattice.proofs.OrderLaws.{Le-refl}
 use Rattle.type_lattice.proofs.Members.{cell_in-initialised}
+use Rattle.type_lattice.proofs.Singles.{never-le}
 use Rattle.hhbc_repo.specs.declared.code.Code.{Code}
 use Rattle.hhbc_repo.specs.declared.code.Code.TheVariants as kinds
 use Rattle.hhbc_repo.specs.declared.code.Imm.{Imm}
@@ -24,7 +25,7 @@ use Rattle.hhbc_semantics.specs.Machine.{World, Frame, Turn, with_cell, read_slo
 use Rattle.abstract_step.specs.State.{State, AllLe, StateLe}
 use Rattle.abstract_step.specs.Flow.{Row, nothing, undefined_row, with_type, with_local_type, op_row, row}
 pub use Rattle.abstract_step.specs.Laws.{Lies, LiesBehind, Fits}
-use Rattle.abstract_step.proofs.StateOrder.{BothAt, AllLe-get, AllLe-set, never-le, initialised-le, AreMembers-get, AreMembers-set}
+use Rattle.abstract_step.proofs.StateOrder.{BothAt, AllLe-get, AllLe-set, initialised-le, AreMembers-get, AreMembers-set}
 
 -- codes of constants and locals ask for no other body and no facts
 pub same_row : (r q : Linked) (F G : Facts) (n m : ℕ) (c : Code) (s : State) → row r F n c s ≡ row q G m c s

@@ -4,7 +4,7 @@ use Rattle.hack_values.specs.declared.cell.Slot.{Slot}
 use Rattle.type_lattice.specs.declared.types.HType.{HType}
 use Rattle.type_lattice.specs.Classes.{Tree}
 use Rattle.type_lattice.specs.Order.{Le}
-use Rattle.type_lattice.specs.Types.{initialised, never}
+use Rattle.type_lattice.specs.Types.{initialised}
 use Rattle.type_lattice.specs.Never.{is_never, all_alive}
 use Rattle.type_lattice.specs.Member.{Heap, is_member, AreMembers}
 use Rattle.type_lattice.proofs.OrderLaws.{Transitive, Le-refl, Le-trans, LeafLe-refl, LeafLe-trans}
@@ -68,9 +68,6 @@ module _ (tree : Tree) where
   alive-le s t h k =
       let w = split (all_alive s.locals) (all_alive s.stack) k in
       together (all_alive t.locals) (all_alive t.stack) (all_alive-le _ _ h.locals w.0) (all_alive-le _ _ h.stack w.1)
-
-  pub never-le : (t : HType) → Le tree never t
-  never-le t = record { uninit = tt; null = tt; no = tt; yes = tt; int = tt; str = tt; obj = tt; vec = tt; dict = tt; keyset = tt }
 
   pub initialised-le : (t u : HType) → Le tree t u → Le tree (initialised t) (initialised u)
   initialised-le t u h = record {

@@ -7,6 +7,7 @@ use Rattle.type_lattice.specs.Order.{Le}
 use Rattle.type_lattice.specs.Types.{never}
 use Rattle.type_lattice.specs.Proper.{IsJoin}
 use Rattle.type_lattice.proofs.OrderLaws.{Le-refl}
+use Rattle.type_lattice.proofs.Singles.{never-le}
 use Rattle.hhbc_repo.specs.declared.code.Code.{Code}
 use Rattle.hhbc_repo.specs.declared.code.Code.TheVariants as kinds
 use Rattle.hhbc_repo.specs.declared.code.Imm.{Imm}
@@ -20,12 +21,13 @@ use Rattle.hhbc_semantics.specs.Truth.{Facts}
 use Rattle.hhbc_semantics.proofs.FirstForm.{only}
 use Rattle.abstract_step.specs.State.{State, entry_state}
 use Rattle.abstract_step.specs.Flow.{Row, Effect, Flows, with_type, with_local_type, goes, code_flow, flow, has_type}
-use Rattle.abstract_step.proofs.StateOrder.{never-le}
 use Rattle.abstract_step.proofs.Rows.{same_row, row-straight}
 use Rattle.func_analyze.specs.Solution.{Table, HasState}
 use Rattle.func_analyze.specs.Rounds.{IsReturned}
 use Rattle.func_analyze.specs.Chain.{no_repo, no_facts, row_of, state_behind, chain, returned_at_end}
+use Rattle.func_analyze.specs.Laws.{AreWords}
 use Rattle.func_analyze.proofs.ChainLeast.{code_there, within}
+use Rattle.func_analyze.proofs.ChainProper.{returned_is_proper}
 
 -- what a position of the only body returns and writes
 pub record Gives (o : Flows) (t : HType) : Type 0 where
@@ -127,9 +129,10 @@ end_least b F u h = from (end_is b.positions (Some (entry_state b)))
           returned = (flow_gives b F l.place l.position l.state l.there).returned ∙ l.is;
         })
 
-pub joined : (count : ℕ) (b : Body) → FitPositions count b.positions → (F : Facts)
+pub joined : (count : ℕ) (b : Body) → FitPositions count b.positions → AreWords b.positions → (F : Facts)
     → IsJoin built_in_tree (IsReturned (only (bare_body b)) F 0 (states_of b)) (end_of b)
-joined count b w F = record {
+joined count b w words F = record {
+  proper = returned_is_proper b words;
   above = λ t i.
       let x = within b.positions (Some (entry_state b)) i.position i.state i.reached in
       let g = flow_gives b F i.position x.0 i.state x.1 in

@@ -5,13 +5,13 @@ use Rattle.std.proofs.lemmas.List.{length-replicate}
 use Rattle.hack_values.specs.declared.cell.Cell.{Cell}
 use Rattle.hack_values.specs.declared.cell.Cell.TheVariants as cells
 use Rattle.type_lattice.specs.declared.types.HType.{HType}
-use Rattle.type_lattice.specs.declared.types.StrPart.{StrPart}
 use Rattle.type_lattice.specs.declared.types.StrPart.TheVariants as strs
 use Rattle.type_lattice.specs.Classes.{Tree}
-use Rattle.type_lattice.specs.Order.{Le, LeafLe, StrLe}
-use Rattle.type_lattice.specs.Types.{never, never_leaf, cell_leaf, key_leaf, cell, literal, str_part}
-use Rattle.type_lattice.specs.Proper.{IsProper, IsJoin}
-use Rattle.type_lattice.proofs.OrderLaws.{Le-trans}
+use Rattle.type_lattice.specs.Order.{Le}
+use Rattle.type_lattice.specs.Types.{never, cell_leaf, key_leaf, cell, literal, str_part}
+use Rattle.type_lattice.specs.Proper.{IsJoin}
+use Rattle.type_lattice.proofs.OrderLaws.{StrLe-top, Le-trans}
+use Rattle.type_lattice.proofs.Singles.{never_leaf-le, cell_proper}
 use Rattle.hhbc_repo.specs.declared.repo.Class.{Class}
 use Rattle.hhbc_repo.specs.declared.repo.Property.{Property}
 use Rattle.hhbc_repo.specs.Linked.{Linked}
@@ -22,7 +22,7 @@ use Rattle.abstract_step.specs.Laws.{FactsLe}
 use Rattle.abstract_step.proofs.FlowOrder.{flow_is_monotone}
 use Rattle.func_analyze.specs.Solution.{Table, IsLeast}
 use Rattle.func_analyze.specs.Rounds.{initial_types, top, IsReturned, IsHeld, AreLeast, IsRound}
-use Rattle.func_analyze.specs.RoundLaws.{AreProper, GivesCells, LowerFactsLowerRound, FactsNeverRise}
+use Rattle.func_analyze.specs.RoundLaws.{GivesCells, LowerFactsLowerRound, FactsNeverRise}
 use Rattle.func_analyze.proofs.ClassChains.{classes_are_transitive}
 use Rattle.func_analyze.proofs.Trimmed.{lower_facts_lower_least, least_is_alive}
 
@@ -43,40 +43,16 @@ same_cell zero n t e = absurd (cc)
 same_cell (suc k) zero t e = cc
 same_cell (suc k) (suc n) t e = same_cell k n t e
 
-short_below : (tree : Tree) (s : StrPart) → StrLe s strs.Any
-short_below tree strs.No = tt
-short_below tree (strs.One s) = tt
-short_below tree strs.Any = tt
-
-cell_proper : (tree : Tree) → IsProper tree cell
-cell_proper tree = record {
-  int = tt;
-  str = tt;
-  obj = tt;
-  vec = record { int = tt; str = tt; obj = tt };
-  dict = (
-    record { null = refl; no = refl; yes = refl; int = tt; str = tt; obj = refl; vec = refl; dict = refl; keyset = refl },
-    record { int = tt; str = tt; obj = tt },
-  );
-  keyset = record { null = refl; no = refl; yes = refl; int = tt; str = tt; obj = refl; vec = refl; dict = refl; keyset = refl };
-}
-
-leaf_below : (tree : Tree) → LeafLe tree never_leaf cell_leaf
-leaf_below tree = record { null = tt; no = tt; yes = tt; int = tt; str = tt; obj = tt; vec = tt; dict = tt; keyset = tt }
-
-key_below : (tree : Tree) → LeafLe tree never_leaf key_leaf
-key_below tree = record { null = tt; no = tt; yes = tt; int = tt; str = tt; obj = tt; vec = tt; dict = tt; keyset = tt }
-
 -- the type of a literal is one of cells
 literal_below : (tree : Tree) (c : Cell) → Le tree (literal c) cell
 literal_below tree cells.Null = record { uninit = tt; null = refl; no = tt; yes = tt; int = tt; str = tt; obj = tt; vec = tt; dict = tt; keyset = tt }
 literal_below tree (cells.Bool true) = record { uninit = tt; null = tt; no = tt; yes = refl; int = tt; str = tt; obj = tt; vec = tt; dict = tt; keyset = tt }
 literal_below tree (cells.Bool false) = record { uninit = tt; null = tt; no = refl; yes = tt; int = tt; str = tt; obj = tt; vec = tt; dict = tt; keyset = tt }
 literal_below tree (cells.Int i) = record { uninit = tt; null = tt; no = tt; yes = tt; int = tt; str = tt; obj = tt; vec = tt; dict = tt; keyset = tt }
-literal_below tree (cells.Str s) = record { uninit = tt; null = tt; no = tt; yes = tt; int = tt; str = short_below tree (str_part s); obj = tt; vec = tt; dict = tt; keyset = tt }
-literal_below tree (cells.Vec vs) = record { uninit = tt; null = tt; no = tt; yes = tt; int = tt; str = tt; obj = tt; vec = leaf_below tree; dict = tt; keyset = tt }
-literal_below tree (cells.Dict es) = record { uninit = tt; null = tt; no = tt; yes = tt; int = tt; str = tt; obj = tt; vec = tt; dict = (key_below tree, leaf_below tree); keyset = tt }
-literal_below tree (cells.Keyset ks) = record { uninit = tt; null = tt; no = tt; yes = tt; int = tt; str = tt; obj = tt; vec = tt; dict = tt; keyset = key_below tree }
+literal_below tree (cells.Str s) = record { uninit = tt; null = tt; no = tt; yes = tt; int = tt; str = StrLe-top (str_part s); obj = tt; vec = tt; dict = tt; keyset = tt }
+literal_below tree (cells.Vec vs) = record { uninit = tt; null = tt; no = tt; yes = tt; int = tt; str = tt; obj = tt; vec = never_leaf-le tree cell_leaf; dict = tt; keyset = tt }
+literal_below tree (cells.Dict es) = record { uninit = tt; null = tt; no = tt; yes = tt; int = tt; str = tt; obj = tt; vec = tt; dict = (never_leaf-le tree key_leaf, never_leaf-le tree cell_leaf); keyset = tt }
+literal_below tree (cells.Keyset ks) = record { uninit = tt; null = tt; no = tt; yes = tt; int = tt; str = tt; obj = tt; vec = tt; dict = tt; keyset = never_leaf-le tree key_leaf }
 literal_below tree (cells.Obj n) = record { uninit = tt; null = tt; no = tt; yes = tt; int = tt; str = tt; obj = tt; vec = tt; dict = tt; keyset = tt }
 
 module _ (tree : Tree) where
@@ -121,20 +97,20 @@ module _ (r : Linked) (E F : Facts) (le : FactsLe (tree_of r) F E) where
       Le-trans (tree_of r) (classes_are_transitive (tree_of r)) t above.0 g above.2
       (join.above above.0 (inr (record { body = is.body; table = T.0; at = T.1; position = is.position; state = up.0; reached = up.1; written = above.1 })))
 
-  lower : (G H : Facts) → IsRound r E G → IsRound r F H → AreProper (tree_of r) G → FactsLe (tree_of r) H G
-  lower G H w v proper = record {
+  lower : (G H : Facts) → IsRound r E G → IsRound r F H → FactsLe (tree_of r) H G
+  lower G H w v = record {
     returns = all_le (tree_of r) H.returns G.returns (v.bodies_told ∙ sym w.bodies_told) (λ n h g i k.
         let a : n < length H.returns = slice_get_within H.returns n h i in
         let T = found w.tables n (let b = v.bodies_told in let c = w.least.count in omega arith) in
         let U = found v.tables n (let b = v.bodies_told in let c = v.least.count in omega arith) in
-        (v.returns n U.0 h U.1 i).least g (proper.returns n g k)
+        (v.returns n U.0 h U.1 i).least g (w.returns n T.0 g T.1 k).proper
         (λ t is. returned_le n T.0 U.0 (w.least.least n T.0 T.1) (v.least.least n U.0 U.1) g t (w.returns n T.0 g T.1 k) is));
     props = all_le (tree_of r) H.props G.props (v.props_told ∙ sym w.props_told) (λ q h g i k.
-        (v.props q h i).least g (proper.props q g k) (λ t is. held_le w.tables v.tables w.least v.least q g t (w.props q g k) is));
+        (v.props q h i).least g (w.props q g k).proper (λ t is. held_le w.tables v.tables w.least v.least q g t (w.props q g k) is));
   }
 
 pub lower_facts_lower_round : LowerFactsLowerRound
-lower_facts_lower_round r E F G H le w v proper = lower r E F le G H w v proper
+lower_facts_lower_round r E F G H le w v = lower r E F le G H w v
 
 -- the first round is below the first facts
 first_falls : (r : Linked) → GivesCells r → (G : Facts) → IsRound r (top r) G → FactsLe (tree_of r) G (top r)
@@ -162,7 +138,7 @@ first_falls r gives G w = record {
     held q t (inr is) = gives.effects is.body is.table (w.least.least is.body is.table is.at) is.position is.state is.reached q t is.written
 
 pub facts_never_rise : FactsNeverRise
-facts_never_rise r gives proper zero F G is w =
+facts_never_rise r gives zero F G is w =
     subst (λ F. FactsLe (tree_of r) G F) (sym is) (first_falls r gives G (subst (λ F. IsRound r F G) is w))
-facts_never_rise r gives proper (suc n) F G is w =
-    lower r is.0 F (facts_never_rise r gives proper n is.0 F is.1 is.2) F G is.2 w (proper (suc n) F is)
+facts_never_rise r gives (suc n) F G is w =
+    lower r is.0 F (facts_never_rise r gives n is.0 F is.1 is.2) F G is.2 w

@@ -102,6 +102,7 @@ module _ (r : Linked) (F G : Facts) (results : List BodyResult) (told : length r
     returns = λ n T t at is. returns n T t (tables.2 n T at) is;
     props_told = joined.props_told;
     props = λ q t at. record {
+      proper = (joined.props q t at).proper;
       above = λ s is. held_below q t s at is;
       least = λ v proper below. (joined.props q t at).least v proper (λ u is. among_below q u v proper below is);
     };
@@ -129,6 +130,7 @@ results_stay r F G n x is =
         λ m. subst (λ (o : Flows). Contains o.to (q, t)) (sym (same p s)) m,
       )) is.table).0 is.least;
       returned = record {
+        proper = is.returned.proper;
         above = λ t w. is.returned.above t (record {
           position = w.position;
           state = w.state;
@@ -144,6 +146,7 @@ results_stay r F G n x is =
       };
       order = is.order;
       effects = λ q t m. record {
+        proper = (is.effects q t m).proper;
         above = λ u w. (is.effects q t m).above u (writes_still G F (λ p s. sym (same p s)) q u w);
         least = λ v proper below. (is.effects q t m).least v proper (λ u w. below u (writes_still F G same q u w));
       };

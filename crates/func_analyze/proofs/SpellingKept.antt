@@ -8,8 +8,8 @@ use Rattle.hhbc_ops.specs.declared.words.ImmKind.{ImmKind}
 use Rattle.hhbc_ops.specs.declared.words.ImmKind.TheVariants as kinds
 use Rattle.hhbc_ops.specs.Ops.{kinds_of}
 use Rattle.type_lattice.specs.declared.types.HType.{HType}
-use Rattle.type_lattice.specs.Classes.{Tree}
-use Rattle.type_lattice.specs.Proper.{IsProper}
+use Rattle.type_lattice.specs.InRange.{where_there, is_proper}
+use Rattle.type_lattice.proofs.Ranges.{proper_is_tested}
 use Rattle.type_lattice.specs.Whole.{is_whole}
 use Rattle.hhbc_repo.specs.declared.body.Assert.{Assert}
 use Rattle.hhbc_repo.specs.declared.body.Assert.TheVariants as asserts
@@ -31,8 +31,8 @@ use Rattle.hhbc_semantics.specs.Form.{FitClaimed, FitsCode, FitsOperands, IsSeco
 use Rattle.hhbc_repo.specs.LinkFaults.{Name}
 use Rattle.hhbc_repo.specs.Linked.{Linked}
 use Rattle.hhbc_repo.specs.Spelled.{HasSpelling}
-use Rattle.hhbc_repo.specs.TypeFits.{type_fits, where_there}
-use Rattle.hhbc_repo.specs.Within.{Bounds, assert_within, bounds_of, local_within, type_within}
+use Rattle.hhbc_repo.specs.TypeFits.{type_fits}
+use Rattle.hhbc_repo.specs.Within.{Bounds, assert_within, bounds_of, local_within}
 use Rattle.hhbc_semantics.proofs.FirstForm.{only, second_is}
 use Rattle.hhbc_repo.proofs.SpelledTypes.{all_back, all_both}
 use Rattle.hhbc_semantics.proofs.Stripped.{bare_again}
@@ -140,19 +140,19 @@ claim_passes test make None h k = refl
 claim_passes test make (Some t) h k = unless_whole test (is_whole t) (make t) (h t k)
 
 -- where proper types are within the bounds
-module _ (b : Bounds) (types : (t : HType) → Proper t → type_within b.classes t ≡ true) where
+module _ (b : Bounds) (types : (t : HType) → Proper t → is_proper b.classes t ≡ true) where
   locals_claimed : (ls : List ℕ) (ts : List HType) → list_all (local_within b) ls ≡ true → AllProper ts → list_all (assert_within b) (local_claims ls ts) ≡ true
   locals_claimed [] ts h k = refl
   locals_claimed (l ∷ ls) ts h k =
       let p = and_parts (local_within b l) (list_all (local_within b) ls) h in
       all_both (assert_within b) (claim (λ t. asserts.Local l t) (slice_get ts l)) (local_claims ls ts)
-      (claim_passes (assert_within b) (λ t. asserts.Local l t) (slice_get ts l) (λ t q. and_from (local_within b l) (type_within b.classes t) p.0 (types t q)) (got ts l k))
+      (claim_passes (assert_within b) (λ t. asserts.Local l t) (slice_get ts l) (λ t q. and_from (local_within b l) (is_proper b.classes t) p.0 (types t q)) (got ts l k))
       (locals_claimed ls ts p.1 k)
 
   stack_claimed : (fs : List Flavour) (ts : List HType) → AllProper ts → list_all (assert_within b) (stack_claims fs ts) ≡ true
   stack_claimed [] ts k = refl
   stack_claimed (f ∷ fs) ts k =
-      claim_passes (assert_within b) (λ t. asserts.Stack 0 t) (slice_get ts 0) (λ t q. and_from (is_index 0) (type_within b.classes t) refl (types t q)) (got ts 0 k)
+      claim_passes (assert_within b) (λ t. asserts.Stack 0 t) (slice_get ts 0) (λ t q. and_from (is_index 0) (is_proper b.classes t) refl (types t q)) (got ts 0 k)
 
   code_claimed : (c : Code) (o : Option State) → FitsCode b.locals c → ProperStateIf o → list_all (assert_within b) (claims c o) ≡ true
   code_claimed c None h k = refl
@@ -171,32 +171,32 @@ module _ (b : Bounds) (types : (t : HType) → Proper t → type_within b.classe
 
 -- ---- the annotated repository
 
-body_claimed : (classes : ℕ) (b : Body) → ((t : HType) → Proper t → type_within classes t ≡ true) → IsSecondBody b → AreWords b.positions
+body_claimed : (classes : ℕ) (b : Body) → ((t : HType) → Proper t → is_proper classes t ≡ true) → IsSecondBody b → AreWords b.positions
     → body_claims_within classes (annotated_main (bare_body b)) ≡ true
 body_claimed classes b types form words =
     let c = bare_body b in
     let bounds = bounds_of classes (annotated_main c) in
     let bare_are_words = bare_words b.positions words in
     let entered = Some (entry_state c) in
-    and_from (type_within classes (returned_at_end c.positions entered)) (list_all (position_claims_within bounds) (with_claims c.positions (chain c.positions entered)))
+    and_from (is_proper classes (returned_at_end c.positions entered)) (list_all (position_claims_within bounds) (with_claims c.positions (chain c.positions entered)))
     (types (returned_at_end c.positions entered) (returned_is_proper c bare_are_words))
     (chain_claimed bounds types c.positions entered (bare_codes (length b.locals) b.positions form.positions) bare_are_words (entry_proper c))
 
 -- proper types over the built-in classes are within their number
-annotated_claims_within : (r : Linked) (form : IsSecondForm r) → ((t : HType) → Proper t → type_within (length built_in_tree) t ≡ true) → AreWords form.body.positions
+annotated_claims_within : (r : Linked) (form : IsSecondForm r) → ((t : HType) → Proper t → is_proper (length built_in_tree) t ≡ true) → AreWords form.body.positions
     → claims_within (annotated_by (bare r)) ≡ true
 annotated_claims_within r form types words =
     let body = body_claims_within (length built_in_tree) (annotated_main (bare_body form.body)) in
     subst (λ (x : Linked). claims_within (annotated_by (bare x)) ≡ true) (sym (second_is r form))
     (and_from (body && true) true (and_from body true (body_claimed (length built_in_tree) form.body types form.second words) refl) refl)
 
-same_when_bare : (r : Linked) → IsSecondForm r → bare r ≡ bare (annotated_by (bare r))
-same_when_bare r form =
-    let w = bare_chain_annotates r form 0 in
+same_when_bare : (r : Linked) (form : IsSecondForm r) → AreWords form.body.positions → bare r ≡ bare (annotated_by (bare r))
+same_when_bare r form words =
+    let w = bare_chain_annotates r form words 0 in
     sym (ap (λ (x : Linked). bare x) w.is ∙ annotated_off (bare r) w.facts w.tables ∙ bare_again r)
 
 pub spelling_kept : (kept : (r s : Linked) → bare r ≡ bare s → claims_within s ≡ true → HasSpelling r → HasSpelling s)
-    (within : (tree : Tree) (t : HType) → IsProper tree t → type_within (length tree) t ≡ true) (r : Linked)
-    → IsSecondForm r → HasSpelling r → HasSpelling (annotated_by (bare r))
-spelling_kept kept within r form h =
-    kept r (annotated_by (bare r)) (same_when_bare r form) (annotated_claims_within r form (λ t k. within built_in_tree t k) (spelled_words r form h)) h
+    (r : Linked) → IsSecondForm r → HasSpelling r → HasSpelling (annotated_by (bare r))
+spelling_kept kept r form h =
+    let words = spelled_words r form h in
+    kept r (annotated_by (bare r)) (same_when_bare r form words) (annotated_claims_within r form (λ t k. (proper_is_tested built_in_tree t).1 k) words) h

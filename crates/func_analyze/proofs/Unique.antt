@@ -92,7 +92,7 @@ module _ (b : Body) (form : IsFirstBody b) (words : AreWords b.positions) where
   returned_same : (F : Facts) (t : HType) → IsJoin built_in_tree (IsReturned (only (bare_body b)) F 0 (states_of b)) t → t ≡ end_of b
   returned_same F t join =
       Le-antisym built_in_tree built_in_antisymmetric t (end_of b)
-      (join.least (end_of b) (returned_is_proper b words) (joined _ b form.positions F).above)
+      (join.least (end_of b) (returned_is_proper b words) (joined _ b form.positions words F).above)
       (end_least b F t join.above)
 
   one_annotated : (a : Linked) (n : ℕ) → IsAnnotated (suc n) (only b) a → a ≡ annotated_by (only b)

@@ -23,15 +23,6 @@ ChainIsLeast =
     (r : Linked) (form : IsFirstForm r) (F : Facts)
     → IsLeast (bare r) F 0 (chain form.body.positions (Some (entry_state form.body)))
 
--- what they annotate is the annotated repository after any number of rounds from 1
-abbrev pub ChainAnnotates : Type 0
-ChainAnnotates = (r : Linked) → IsFirstForm r → (n : ℕ) → IsAnnotated (suc n) r (annotated_by r)
-
--- the annotated repository, after any number of rounds, runs as the original does, all its claims are true, and no run of it is stuck where none
--- of the original is
-abbrev pub AnnotatedIsFaithful : Type 0
-AnnotatedIsFaithful = (r a : Linked) (n : ℕ) → IsAnnotated n r a → IsNeverStuck r → IsFaithful r a
-
 -- an operand that is an int is one of 64 bits, as those of each program are
 abbrev pub IsWord : Code → Type 0
 IsWord (kinds.Plain i) = FitsSigned w64 (int_of i.imms)
@@ -40,6 +31,15 @@ IsWord (kinds.Member m) = Unit {0}
 abbrev pub AreWords : List Position → Type 0
 AreWords [] = Unit {0}
 AreWords (p ∷ ps) = IsWord p.code × AreWords ps
+
+-- what they annotate is the annotated repository after any number of rounds from 1
+abbrev pub ChainAnnotates : Type 0
+ChainAnnotates = (r : Linked) (form : IsFirstForm r) → AreWords form.body.positions → (n : ℕ) → IsAnnotated (suc n) r (annotated_by r)
+
+-- the annotated repository, after any number of rounds, runs as the original does, all its claims are true, and no run of it is stuck where none
+-- of the original is
+abbrev pub AnnotatedIsFaithful : Type 0
+AnnotatedIsFaithful = (r a : Linked) (n : ℕ) → IsAnnotated n r a → IsNeverStuck r → IsFaithful r a
 
 -- a repository of the first form has one annotated repository
 abbrev pub AnnotatedIsUnique : Type 0
@@ -51,7 +51,7 @@ FactsAreTrue = (r : Linked) (n : ℕ) (F : Facts) → IsFacts (bare r) n F → A
 
 -- a repository of the second form is annotated along its codes as they stand without claims
 abbrev pub BareChainAnnotates : Type 0
-BareChainAnnotates = (r : Linked) → IsSecondForm r → (n : ℕ) → IsAnnotated (suc n) r (annotated_by (bare r))
+BareChainAnnotates = (r : Linked) (form : IsSecondForm r) → AreWords form.body.positions → (n : ℕ) → IsAnnotated (suc n) r (annotated_by (bare r))
 
 -- the annotated repository of one of the second form is faithful to it
 abbrev pub SecondIsFaithful : Type 0

@@ -1,10 +1,8 @@
 -- How facts go from round to round.
-use Rattle.std.specs.Prelude.{◌≡◌, ℕ, Some, slice_get, Contains}
+use Rattle.std.specs.Prelude.{ℕ, Contains}
 use Rattle.type_lattice.specs.declared.types.HType.{HType}
-use Rattle.type_lattice.specs.Classes.{Tree}
 use Rattle.type_lattice.specs.Order.{Le}
 use Rattle.type_lattice.specs.Types.{cell}
-use Rattle.type_lattice.specs.Proper.{IsProper}
 use Rattle.hhbc_repo.specs.Linked.{Linked}
 use Rattle.hhbc_repo.specs.Bodies.{tree_of}
 use Rattle.hhbc_semantics.specs.Truth.{Facts}
@@ -14,16 +12,10 @@ use Rattle.abstract_step.specs.Laws.{FactsLe}
 use Rattle.func_analyze.specs.Solution.{Table, HasState, IsLeast}
 use Rattle.func_analyze.specs.Rounds.{IsRound, IsFacts, top}
 
--- all types of the facts are proper
-pub record AreProper (tree : Tree) (F : Facts) : Type 0 where
-  pub returns : (n : ℕ) (t : HType) → slice_get F.returns n ≡ Some t → IsProper tree t
-  pub props : (q : ℕ) (t : HType) → slice_get F.props q ≡ Some t → IsProper tree t
-
 -- lower facts have a lower round
 abbrev pub LowerFactsLowerRound : Type 0
 LowerFactsLowerRound =
-    (r : Linked) (E F G H : Facts) → FactsLe (tree_of r) F E → IsRound r E G → IsRound r F H → AreProper (tree_of r) G
-    → FactsLe (tree_of r) H G
+    (r : Linked) (E F G H : Facts) → FactsLe (tree_of r) F E → IsRound r E G → IsRound r F H → FactsLe (tree_of r) H G
 
 -- in the first round, what a reached position returns or writes is a cell
 pub record GivesCells (r : Linked) : Type 0 where
@@ -35,5 +27,4 @@ pub record GivesCells (r : Linked) : Type 0 where
 -- facts never rise from round to round
 abbrev pub FactsNeverRise : Type 0
 FactsNeverRise =
-    (r : Linked) → GivesCells r → ((n : ℕ) (F : Facts) → IsFacts r n F → AreProper (tree_of r) F)
-    → (n : ℕ) (F G : Facts) → IsFacts r n F → IsRound r F G → FactsLe (tree_of r) G F
+    (r : Linked) → GivesCells r → (n : ℕ) (F G : Facts) → IsFacts r n F → IsRound r F G → FactsLe (tree_of r) G F

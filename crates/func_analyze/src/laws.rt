@@ -8,7 +8,8 @@ pub fn chain_is_least()
     ensures { ChainIsLeast }
 {}
 
-/// What these states return and assert is the annotated repository, after any number of rounds from 1.
+/// What these states return and assert is the annotated repository, after any number of rounds from 1, where the
+/// ints are of 64 bits.
 pub fn chain_annotates()
     ensures { ChainAnnotates }
 {}
@@ -39,7 +40,8 @@ pub fn frames_lie()
 {}
 
 /// What the states along the codes return and assert is the annotated repository of one of the
-/// second form, whose own claims don't count, after any number of rounds from 1.
+/// second form, whose own claims don't count and whose ints are of 64 bits, after any number of rounds
+/// from 1.
 pub fn bare_chain_annotates()
     ensures { BareChainAnnotates }
 {}

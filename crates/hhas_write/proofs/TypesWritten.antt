@@ -374,7 +374,7 @@ spaced_type_text names t =
     ∙ (type_first (is_whole t) t.uninit (written.uninit_atoms t.uninit ++ (written.plains (written.scalar_atoms names t) ++ written.container_atoms names t))
     ∙ ap (λ l. 32 ∷ l) (type_spelled names t))
 
-pub type_written : (names : List Name) (t : HType) (out one new word : List ℕ) → word ≡ text.type_text names t → one ≡ out ++ 32 ∷ [] → new ≡ one ++ word
+pub type_written : (names : List Name) (t : HType) (out one new : List ℕ) → one ≡ out ++ 32 ∷ [] → new ≡ one ++ text.type_text names t
     → new ≡ out ++ text_of (type_pieces (canonical_type names t))
-type_written names t out one new word h k w =
-    w ∙ (ap (λ l. l ++ word) k ∙ (append_assoc out (32 ∷ []) word ∙ (ap (λ l. out ++ (32 ∷ l)) h ∙ ap (λ l. out ++ l) (sym (spaced_type_text names t)))))
+type_written names t out one new k w =
+    w ∙ (ap (λ l. l ++ text.type_text names t) k ∙ (append_assoc out (32 ∷ []) (text.type_text names t) ∙ ap (λ l. out ++ l) (sym (spaced_type_text names t))))

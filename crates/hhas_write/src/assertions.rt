@@ -20,7 +20,6 @@ use std::alloc::Global;
 use type_lattice::HType;
 
 fn local_assertion(
-    alloc: Global,
     out: &mut Text,
     depth: usize,
     word: &[u8],
@@ -32,7 +31,7 @@ fn local_assertion(
 {
     line_word(out, depth, word)?;
     spaced_local(out, scope.local(local))?;
-    spaced_type(alloc, out, scope.classes(), t)
+    spaced_type(out, scope.classes(), t)
 }
 
 fn stack_assertion(
@@ -48,7 +47,7 @@ fn stack_assertion(
 {
     line_word(out, depth, word)?;
     spaced_count(alloc, out, u16::from(slot))?;
-    spaced_type(alloc, out, scope.classes(), t)
+    spaced_type(out, scope.classes(), t)
 }
 
 fn push_assertion(
@@ -61,9 +60,7 @@ fn push_assertion(
     ensures { OnOk result (out.new ≡ out.old ++ text_of (assert_pieces depth (canonical_assert scope.now.classes scope.now.body claim.now))) }
 {
     match claim {
-        Assert::Local(local, t) => {
-            local_assertion(alloc, out, depth, b"AssertRATL", scope, *local, t)
-        }
+        Assert::Local(local, t) => { local_assertion(out, depth, b"AssertRATL", scope, *local, t) }
         Assert::Stack(slot, t) => {
             stack_assertion(alloc, out, depth, b"AssertRATStk", scope, *slot, t)
         }

@@ -46,7 +46,6 @@ fn push_params(out: &mut Text, names: &[Text]) -> Result<(), NoMemory>
 
 /// A directive and a type, where one is stated.
 pub(crate) fn push_stated(
-    alloc: Global,
     out: &mut Text,
     word: &[u8],
     classes: &[Text],
@@ -57,7 +56,7 @@ pub(crate) fn push_stated(
     match stated {
         Some(t) => {
             spaced_directive(out, word)?;
-            spaced_type(alloc, out, classes, t)
+            spaced_type(out, classes, t)
         }
         None => Ok(()),
     }
@@ -138,7 +137,6 @@ pub(crate) fn declared(body: &Body) -> &[Text]
 /// The line that begins a body.
 #[tactic(auto, using(crate::proofs::Written::text_append))]
 pub(crate) fn push_head(
-    alloc: Global,
     out: &mut Text,
     depth: usize,
     word: &[u8],
@@ -150,6 +148,6 @@ pub(crate) fn push_head(
     line_directive(out, depth, word)?;
     spaced_word(out, body.name.bytes())?;
     push_params(out, params(body))?;
-    push_stated(alloc, out, b"returns", classes, &body.stated)?;
+    push_stated(out, b"returns", classes, &body.stated)?;
     spaced_open(out)
 }

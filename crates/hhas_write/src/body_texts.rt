@@ -43,7 +43,7 @@ pub(crate) fn push_body(
     requires { depth < 2 }
     ensures { OnOk result (out.new ≡ out.old ++ text_of (body_pieces depth word.now (canonical_body classes.now body.now))) }
 {
-    push_head(alloc, out, depth, word, classes, body)?;
+    push_head(out, depth, word, classes, body)?;
     push_inner(alloc, out, depth + 1, classes, body)?;
     line_close(out, depth)
 }

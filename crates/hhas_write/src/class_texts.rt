@@ -79,7 +79,7 @@ fn push_property(
         property.name.bytes(),
         &property.initial,
     )?;
-    push_stated(alloc, out, b"holds", classes, &property.stated)?;
+    push_stated(out, b"holds", classes, &property.stated)?;
     out.append(b";")
 }
 

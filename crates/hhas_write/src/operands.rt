@@ -79,7 +79,7 @@ fn push_operand(
         Imm::IncDec(change) => spaced_word(out, inc_dec_name(*change).as_bytes()),
         Imm::SetOp(set_op) => spaced_word(out, set_op_name(*set_op).as_bytes()),
         Imm::IsType(kind) => spaced_word(out, is_type_name(*kind).as_bytes()),
-        Imm::Constraint(t) => spaced_type(alloc, out, scope.classes(), t),
+        Imm::Constraint(t) => spaced_type(out, scope.classes(), t),
         Imm::Arms(arms) => push_switch(alloc, out, scope, is_text_switch(op), arms.as_slice()),
         Imm::IterLocals(key, value) => push_iter_locals(out, scope, *key, *value),
     }

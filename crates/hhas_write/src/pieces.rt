@@ -11,7 +11,7 @@ ghost use Rattle.hhbc_repo.specs.WrittenTypes.{canonical_type};
 
 use hack_values::{NoMemory, Text};
 use std::alloc::Global;
-use type_lattice::{HType, type_text};
+use type_lattice::{HType, push_type};
 
 /// Ends the line, and begins one within so many braces.
 fn push_line(out: &mut Text, depth: usize) -> Result<(), NoMemory>
@@ -241,15 +241,9 @@ pub(crate) fn line_label(
 }
 
 /// A type, given the names of all classes.
-pub(crate) fn spaced_type(
-    alloc: Global,
-    out: &mut Text,
-    classes: &[Text],
-    t: &HType,
-) -> Result<(), NoMemory>
+pub(crate) fn spaced_type(out: &mut Text, classes: &[Text], t: &HType) -> Result<(), NoMemory>
     ensures { OnOk result (out.new ≡ out.old ++ text_of (type_pieces (canonical_type classes.now t.now))) }
 {
-    let written = type_text(alloc, t, classes)?;
     out.append(b" ")?;
-    out.append(written.bytes())
+    push_type(out, t, classes)
 }
