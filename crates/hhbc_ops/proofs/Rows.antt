@@ -1,6 +1,5 @@
 -- What each row of the table keeps to.
 use Rattle.std.proofs.Common.{refl, arith}
-use Rattle.hhbc_ops.specs.declared.op.Op.{Op}
 use Rattle.hhbc_ops.specs.declared.op.Op.TheVariants as ops
 use Rattle.hhbc_ops.specs.Laws.{RowsFit}
 

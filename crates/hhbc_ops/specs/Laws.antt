@@ -1,5 +1,5 @@
 -- Laws of the table of instructions.
-use Rattle.std.specs.Prelude.{◌≡◌, ◌≤◌, Bool, true, false, List, [], ◌∷◌, length}
+use Rattle.std.specs.Prelude.{◌≡◌, ◌≤◌, Bool, true, false, List, ◌∷◌, length}
 use Rattle.hhbc_ops.specs.declared.words.Flavour.{Flavour}
 use Rattle.hhbc_ops.specs.declared.op.Op.{Op}
 use Rattle.hhbc_ops.specs.declared.words.ImmKind.{ImmKind}
