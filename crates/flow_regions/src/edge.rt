@@ -1,7 +1,6 @@
 //! Where a position leads.
 
 ghost use Rattle.std.specs.Prelude.{◌≡◌, ◌<◌, ◌^◌, ◌++◌, suc, map, length, IfOk, OnOk};
-ghost use Rattle.std.specs.List.{flat_map};
 ghost use Rattle.hhbc_repo.specs.Bodies.{bodies};
 ghost use Rattle.hhbc_repo.specs.Codes as codes;
 ghost use Rattle.hhbc_repo.specs.Edges.{To, edges, handler_edges, next_edges};
@@ -9,8 +8,7 @@ ghost use Rattle.flow_regions.specs.EdgeLists.{edges_at, edges_from, position_co
 
 use crate::regions::{count_positions, handler_of};
 use hack_values::{NoMemory, Seq};
-use hhbc_ops::has_next;
-use hhbc_repo::{Arm, Body, Code, Imm, Repo, code_may_throw};
+use hhbc_repo::{Body, Code, Repo, code_goes_on, code_may_throw, push_labels};
 use std::alloc::Global;
 
 /// An edge of a position: to the position behind it, to a label, or to the catch body that an exception goes to.
@@ -21,60 +19,31 @@ pub enum Edge {
     Handler(u32),
 }
 
-fn goes_on(code: &Code) -> bool
-    ensures { result ≡ codes.goes_on code.now }
-{
-    match code {
-        Code::Plain(instr) => has_next(instr.op),
-        Code::Member(_) => true,
-    }
-}
-
 fn add_next(edges: &mut Seq<Edge>, code: &Code, position: u32) -> Result<(), NoMemory>
     requires { suc position < 2 ^ 32 }
     ensures { OnOk result (told edges.new ≡ told edges.old ++ next_edges (codes.goes_on code.now) position) }
 {
-    if goes_on(code) {
+    if code_goes_on(code) {
         edges.push(Edge::Next(position + 1))?;
     }
     Ok(())
 }
 
-fn add_arms(edges: &mut Seq<Edge>, arms: &[Arm]) -> Result<(), NoMemory>
-    ensures { OnOk result (told edges.new ≡ told edges.old ++ map (λ q. To q) (map (λ a. a.target) arms.now)) }
+fn add_targets(edges: &mut Seq<Edge>, targets: &[u32]) -> Result<(), NoMemory>
+    ensures { OnOk result (told edges.new ≡ told edges.old ++ map (λ q. To q) targets.now) }
 {
-    for arm in arms {
-        edges.push(Edge::To(arm.target))?;
+    for target in targets {
+        edges.push(Edge::To(*target))?;
     }
     Ok(())
 }
 
-fn add_labels_in(edges: &mut Seq<Edge>, imm: &Imm) -> Result<(), NoMemory>
-    ensures { OnOk result (told edges.new ≡ told edges.old ++ map (λ q. To q) (codes.labels_in imm.now)) }
-{
-    match imm {
-        Imm::Pos(target) => edges.push(Edge::To(*target)),
-        Imm::Arms(arms) => add_arms(edges, arms.as_slice()),
-        _ => Ok(()),
-    }
-}
-
-fn add_labels_among(edges: &mut Seq<Edge>, imms: &[Imm]) -> Result<(), NoMemory>
-    ensures { OnOk result (told edges.new ≡ told edges.old ++ map (λ q. To q) (flat_map codes.labels_in imms.now)) }
-{
-    for imm in imms {
-        add_labels_in(edges, imm)?;
-    }
-    Ok(())
-}
-
-fn add_labels(edges: &mut Seq<Edge>, code: &Code) -> Result<(), NoMemory>
+fn add_labels(alloc: Global, edges: &mut Seq<Edge>, code: &Code) -> Result<(), NoMemory>
     ensures { OnOk result (told edges.new ≡ told edges.old ++ map (λ q. To q) (codes.labels code.now)) }
 {
-    match code {
-        Code::Plain(instr) => add_labels_among(edges, instr.imms.as_slice()),
-        Code::Member(_) => Ok(()),
-    }
+    let mut labels = Seq::new(alloc);
+    push_labels(&mut labels, code)?;
+    add_targets(edges, labels.as_slice())
 }
 
 fn add_handler(edges: &mut Seq<Edge>, code: &Code, handler: Option<u32>) -> Result<(), NoMemory>
@@ -101,7 +70,7 @@ pub fn edges_with(
 {
     let mut edges = Seq::new(alloc);
     add_next(&mut edges, code, position)?;
-    add_labels(&mut edges, code)?;
+    add_labels(alloc, &mut edges, code)?;
     add_handler(&mut edges, code, handler)?;
     Ok(edges)
 }

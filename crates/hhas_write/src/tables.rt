@@ -1,13 +1,11 @@
 //! Tables of the positions of a body: how often something stands at each, and the numbers of their labels.
 
-ghost use Rattle.std.specs.Prelude.{◌≡◌, ◌++◌, suc, IfOk, OnOk, length, map};
-ghost use Rattle.std.specs.List.{flat_map};
-ghost use Rattle.hhbc_repo.specs.Canonical.{firsts, lasts, mids, position_targets, targets};
-ghost use Rattle.hhbc_repo.specs.Codes.{labels, labels_in};
+ghost use Rattle.std.specs.Prelude.{◌≡◌, suc, IfOk, length};
+ghost use Rattle.hhbc_repo.specs.Canonical.{firsts, lasts, mids, targets};
 ghost use Rattle.hhas_write.specs.Tables.{Labels, Tallied};
 
 use hack_values::{NoMemory, Seq};
-use hhbc_repo::{Arm, Code, Imm, Position, Region};
+use hhbc_repo::{Position, Region, push_labels};
 use std::alloc::Global;
 
 /// How often each number below the size is among these.
@@ -24,50 +22,13 @@ pub(crate) fn tally(alloc: Global, size: usize, numbers: &[u32]) -> Result<Vec<u
     Ok(counts)
 }
 
-fn push_arm_targets(out: &mut Seq<u32>, arms: &[Arm]) -> Result<(), NoMemory>
-    ensures { OnOk result (out.new ≡ out.old ++ map (λ a. a.target) arms.now) }
-{
-    for arm in arms {
-        out.push(arm.target)?;
-    }
-    Ok(())
-}
-
-fn push_operand_targets(out: &mut Seq<u32>, operand: &Imm) -> Result<(), NoMemory>
-    ensures { OnOk result (out.new ≡ out.old ++ labels_in operand.now) }
-{
-    match operand {
-        Imm::Pos(position) => out.push(*position),
-        Imm::Arms(arms) => push_arm_targets(out, arms.as_slice()),
-        _ => Ok(()),
-    }
-}
-
-fn push_all_targets(out: &mut Seq<u32>, operands: &[Imm]) -> Result<(), NoMemory>
-    ensures { OnOk result (out.new ≡ out.old ++ flat_map labels_in operands.now) }
-{
-    for operand in operands {
-        push_operand_targets(out, operand)?;
-    }
-    Ok(())
-}
-
-fn push_code_targets(out: &mut Seq<u32>, code: &Code) -> Result<(), NoMemory>
-    ensures { OnOk result (out.new ≡ out.old ++ labels code.now) }
-{
-    match code {
-        Code::Plain(code) => push_all_targets(out, code.imms.as_slice()),
-        Code::Member(_) => Ok(()),
-    }
-}
-
 /// The positions that codes name, each as often as it is named.
 fn targets(alloc: Global, positions: &[Position]) -> Result<Seq<u32>, NoMemory>
     ensures { IfOk result (λ out. out ≡ targets positions.now) }
 {
     let mut out = Seq::new(alloc);
     for position in positions {
-        push_code_targets(&mut out, &position.code)?;
+        push_labels(&mut out, &position.code)?;
     }
     Ok(out)
 }

@@ -1,114 +1,134 @@
--- The table of instructions: names, kinds of operands, what may raise an exception, and what has a next position.
+-- The table of instructions: all that is said of an instruction but what it does with its values.
 use Rattle.std.specs.Prelude.{◌≡◌, ℕ, Bool, true, false, ◌==◌, List, [], ◌∷◌, length, Option, if◌then◌else◌, codes}
 use Rattle.hhbc_ops.specs.declared.op.Op.{Op}
 use Rattle.hhbc_ops.specs.declared.op.Op.TheVariants as ops
 use Rattle.hhbc_ops.specs.declared.table.Row.{Row as Entry}
+use Rattle.hhbc_ops.specs.declared.words.Flavour.{Flavour}
+use Rattle.hhbc_ops.specs.declared.words.Flavour.TheVariants.{C, U}
 use Rattle.hhbc_ops.specs.declared.words.ImmKind.{ImmKind}
 use Rattle.hhbc_ops.specs.declared.words.ImmKind.TheVariants as kinds
+use Rattle.hhbc_ops.specs.declared.words.OperandUse.{OperandUse}
+use Rattle.hhbc_ops.specs.declared.words.OperandUse.TheVariants as uses
 use Rattle.hhbc_ops.specs.Names.{first_named}
+use Rattle.hhbc_ops.specs.Stacks.{Pops, Fixed, Counted, stack_pops, stack_pushes}
 
 -- a row: the name of an instruction as texts spell it, the kinds of its operands in order, whether it may raise an
--- exception, and whether the position behind it may come next
+-- exception, whether the position behind it may come next, the slots that it takes off the stack, those that it puts
+-- there, the topmost first, and what it does with the local or the iterator that is its first operand
 pub record Row : Type 0 where
   pub name : List ℕ
   pub kinds : List ImmKind
   pub throws : Bool
   pub next : Bool
+  pub pops : Pops
+  pub pushes : List Flavour
+  pub operand : OperandUse
 
 -- the row that the program keeps is this one
 abbrev pub IsRow : Entry → Row → Type 0
-IsRow e r = (e.name.now ≡ r.name) × (e.kinds.now ≡ r.kinds) × (e.throws ≡ r.throws) × (e.next ≡ r.next)
+IsRow e r =
+    (e.name.now ≡ r.name)
+    × (e.kinds.now ≡ r.kinds)
+    × (e.throws ≡ r.throws)
+    × (e.next ≡ r.next)
+    × (stack_pops e.stack ≡ r.pops)
+    × (stack_pushes e.stack ≡ r.pushes)
+    × (e.operand ≡ r.operand)
 
 -- goes on, and raises nothing
-abbrev pub plain : List ℕ → List ImmKind → Row
-plain name kinds = record { name = name; kinds = kinds; throws = false; next = true }
+abbrev pub plain : List ℕ → List ImmKind → Pops → List Flavour → OperandUse → Row
+plain name kinds pops pushes operand =
+    record { name = name; kinds = kinds; throws = false; next = true; pops = pops; pushes = pushes; operand = operand }
 
 -- goes on, or raises an exception
-abbrev pub throwing : List ℕ → List ImmKind → Row
-throwing name kinds = record { name = name; kinds = kinds; throws = true; next = true }
+abbrev pub throwing : List ℕ → List ImmKind → Pops → List Flavour → OperandUse → Row
+throwing name kinds pops pushes operand =
+    record { name = name; kinds = kinds; throws = true; next = true; pops = pops; pushes = pushes; operand = operand }
 
 -- never goes on to the position behind it
-abbrev pub ending : List ℕ → List ImmKind → Row
-ending name kinds = record { name = name; kinds = kinds; throws = false; next = false }
+abbrev pub ending : List ℕ → List ImmKind → Pops → List Flavour → OperandUse → Row
+ending name kinds pops pushes operand =
+    record { name = name; kinds = kinds; throws = false; next = false; pops = pops; pushes = pushes; operand = operand }
 
 -- raises an exception in any case
-abbrev pub raising : List ℕ → List ImmKind → Row
-raising name kinds = record { name = name; kinds = kinds; throws = true; next = false }
+abbrev pub raising : List ℕ → List ImmKind → Pops → List Flavour → OperandUse → Row
+raising name kinds pops pushes operand =
+    record { name = name; kinds = kinds; throws = true; next = false; pops = pops; pushes = pushes; operand = operand }
 
 abbrev pub table : Op → Row
-table ops.Nop = plain (codes "Nop") []
-table ops.Null = plain (codes "Null") []
-table ops.True = plain (codes "True") []
-table ops.False = plain (codes "False") []
-table ops.Int = plain (codes "Int") (kinds.Int ∷ [])
-table ops.String = plain (codes "String") (kinds.Str ∷ [])
-table ops.NullUninit = plain (codes "NullUninit") []
-table ops.PopC = plain (codes "PopC") []
-table ops.PopU = plain (codes "PopU") []
-table ops.Dup = plain (codes "Dup") []
-table ops.PopL = plain (codes "PopL") (kinds.Local ∷ [])
-table ops.SetL = plain (codes "SetL") (kinds.Local ∷ [])
-table ops.CGetL = throwing (codes "CGetL") (kinds.Local ∷ [])
-table ops.CGetQuietL = plain (codes "CGetQuietL") (kinds.Local ∷ [])
-table ops.CGetL2 = throwing (codes "CGetL2") (kinds.Local ∷ [])
-table ops.PushL = throwing (codes "PushL") (kinds.Local ∷ [])
-table ops.UnsetL = plain (codes "UnsetL") (kinds.Local ∷ [])
-table ops.SetOpL = throwing (codes "SetOpL") (kinds.Local ∷ kinds.SetOp ∷ [])
-table ops.IncDecL = throwing (codes "IncDecL") (kinds.Local ∷ kinds.IncDec ∷ [])
-table ops.Concat = throwing (codes "Concat") []
-table ops.Add = throwing (codes "Add") []
-table ops.Sub = throwing (codes "Sub") []
-table ops.Mul = throwing (codes "Mul") []
-table ops.Mod = throwing (codes "Mod") []
-table ops.BitAnd = throwing (codes "BitAnd") []
-table ops.BitOr = throwing (codes "BitOr") []
-table ops.BitXor = throwing (codes "BitXor") []
-table ops.Shl = throwing (codes "Shl") []
-table ops.Shr = throwing (codes "Shr") []
-table ops.Same = plain (codes "Same") []
-table ops.NSame = plain (codes "NSame") []
-table ops.Lt = throwing (codes "Lt") []
-table ops.Lte = throwing (codes "Lte") []
-table ops.Gt = throwing (codes "Gt") []
-table ops.Gte = throwing (codes "Gte") []
-table ops.Cmp = throwing (codes "Cmp") []
-table ops.BitNot = throwing (codes "BitNot") []
-table ops.CastInt = throwing (codes "CastInt") []
-table ops.CastString = throwing (codes "CastString") []
-table ops.Not = plain (codes "Not") []
-table ops.CastBool = plain (codes "CastBool") []
-table ops.IsTypeC = plain (codes "IsTypeC") (kinds.IsType ∷ [])
-table ops.IsTypeL = throwing (codes "IsTypeL") (kinds.Local ∷ kinds.IsType ∷ [])
-table ops.InstanceOfD = plain (codes "InstanceOfD") (kinds.Class ∷ [])
-table ops.NewVec = plain (codes "NewVec") (kinds.Count ∷ [])
-table ops.NewKeysetArray = throwing (codes "NewKeysetArray") (kinds.Count ∷ [])
-table ops.NewDictArray = plain (codes "NewDictArray") (kinds.Count ∷ [])
-table ops.AddElemC = throwing (codes "AddElemC") []
-table ops.AddNewElemC = throwing (codes "AddNewElemC") []
-table ops.Jmp = ending (codes "Jmp") (kinds.Label ∷ [])
-table ops.JmpZ = plain (codes "JmpZ") (kinds.Label ∷ [])
-table ops.JmpNZ = plain (codes "JmpNZ") (kinds.Label ∷ [])
-table ops.Switch = ending (codes "Switch") (kinds.Int ∷ kinds.Switch ∷ [])
-table ops.SSwitch = ending (codes "SSwitch") (kinds.SSwitch ∷ [])
-table ops.RetC = ending (codes "RetC") []
-table ops.Throw = raising (codes "Throw") []
-table ops.Fatal = ending (codes "Fatal") []
-table ops.ClsCnsD = plain (codes "ClsCnsD") (kinds.Name ∷ kinds.Class ∷ [])
-table ops.FCallFuncD = throwing (codes "FCallFuncD") (kinds.Count ∷ kinds.Name ∷ [])
-table ops.FCallObjMethodD = throwing (codes "FCallObjMethodD") (kinds.Count ∷ kinds.Name ∷ [])
-table ops.FCallClsMethodD = throwing (codes "FCallClsMethodD") (kinds.Count ∷ kinds.Name ∷ kinds.Class ∷ [])
-table ops.NewObjD = plain (codes "NewObjD") (kinds.Class ∷ [])
-table ops.FCallCtor = throwing (codes "FCallCtor") (kinds.Count ∷ [])
-table ops.LockObj = throwing (codes "LockObj") []
-table ops.This = throwing (codes "This") []
-table ops.BareThis = plain (codes "BareThis") []
-table ops.CheckThis = throwing (codes "CheckThis") []
-table ops.IterInit = throwing (codes "IterInit") (kinds.Iter ∷ kinds.IterLocals ∷ kinds.Label ∷ [])
-table ops.IterNext = plain (codes "IterNext") (kinds.Iter ∷ kinds.IterLocals ∷ kinds.Label ∷ [])
-table ops.IterFree = plain (codes "IterFree") (kinds.Iter ∷ [])
-table ops.VerifyParamType = throwing (codes "VerifyParamType") (kinds.Local ∷ kinds.Constraint ∷ [])
-table ops.VerifyRetTypeC = throwing (codes "VerifyRetTypeC") (kinds.Constraint ∷ [])
-table ops.Print = throwing (codes "Print") []
+table ops.Nop = plain (codes "Nop") [] (Fixed []) [] uses.Nothing
+table ops.Null = plain (codes "Null") [] (Fixed []) (C ∷ []) uses.Nothing
+table ops.True = plain (codes "True") [] (Fixed []) (C ∷ []) uses.Nothing
+table ops.False = plain (codes "False") [] (Fixed []) (C ∷ []) uses.Nothing
+table ops.Int = plain (codes "Int") (kinds.Int ∷ []) (Fixed []) (C ∷ []) uses.Nothing
+table ops.String = plain (codes "String") (kinds.Str ∷ []) (Fixed []) (C ∷ []) uses.Nothing
+table ops.NullUninit = plain (codes "NullUninit") [] (Fixed []) (U ∷ []) uses.Nothing
+table ops.PopC = plain (codes "PopC") [] (Fixed (C ∷ [])) [] uses.Nothing
+table ops.PopU = plain (codes "PopU") [] (Fixed (U ∷ [])) [] uses.Nothing
+table ops.Dup = plain (codes "Dup") [] (Fixed (C ∷ [])) (C ∷ C ∷ []) uses.Nothing
+table ops.PopL = plain (codes "PopL") (kinds.Local ∷ []) (Fixed (C ∷ [])) [] uses.SetsLocal
+table ops.SetL = plain (codes "SetL") (kinds.Local ∷ []) (Fixed (C ∷ [])) (C ∷ []) uses.SetsLocal
+table ops.CGetL = throwing (codes "CGetL") (kinds.Local ∷ []) (Fixed []) (C ∷ []) uses.ReadsLocal
+table ops.CGetQuietL = plain (codes "CGetQuietL") (kinds.Local ∷ []) (Fixed []) (C ∷ []) uses.ReadsLocal
+table ops.CGetL2 = throwing (codes "CGetL2") (kinds.Local ∷ []) (Fixed (C ∷ [])) (C ∷ C ∷ []) uses.ReadsLocal
+table ops.PushL = throwing (codes "PushL") (kinds.Local ∷ []) (Fixed []) (C ∷ []) uses.ReadsLocal
+table ops.UnsetL = plain (codes "UnsetL") (kinds.Local ∷ []) (Fixed []) [] uses.SetsLocal
+table ops.SetOpL = throwing (codes "SetOpL") (kinds.Local ∷ kinds.SetOp ∷ []) (Fixed (C ∷ [])) (C ∷ []) uses.ReadsLocal
+table ops.IncDecL = throwing (codes "IncDecL") (kinds.Local ∷ kinds.IncDec ∷ []) (Fixed []) (C ∷ []) uses.ReadsLocal
+table ops.Concat = throwing (codes "Concat") [] (Fixed (C ∷ C ∷ [])) (C ∷ []) uses.Nothing
+table ops.Add = throwing (codes "Add") [] (Fixed (C ∷ C ∷ [])) (C ∷ []) uses.Nothing
+table ops.Sub = throwing (codes "Sub") [] (Fixed (C ∷ C ∷ [])) (C ∷ []) uses.Nothing
+table ops.Mul = throwing (codes "Mul") [] (Fixed (C ∷ C ∷ [])) (C ∷ []) uses.Nothing
+table ops.Mod = throwing (codes "Mod") [] (Fixed (C ∷ C ∷ [])) (C ∷ []) uses.Nothing
+table ops.BitAnd = throwing (codes "BitAnd") [] (Fixed (C ∷ C ∷ [])) (C ∷ []) uses.Nothing
+table ops.BitOr = throwing (codes "BitOr") [] (Fixed (C ∷ C ∷ [])) (C ∷ []) uses.Nothing
+table ops.BitXor = throwing (codes "BitXor") [] (Fixed (C ∷ C ∷ [])) (C ∷ []) uses.Nothing
+table ops.Shl = throwing (codes "Shl") [] (Fixed (C ∷ C ∷ [])) (C ∷ []) uses.Nothing
+table ops.Shr = throwing (codes "Shr") [] (Fixed (C ∷ C ∷ [])) (C ∷ []) uses.Nothing
+table ops.Same = plain (codes "Same") [] (Fixed (C ∷ C ∷ [])) (C ∷ []) uses.Nothing
+table ops.NSame = plain (codes "NSame") [] (Fixed (C ∷ C ∷ [])) (C ∷ []) uses.Nothing
+table ops.Lt = throwing (codes "Lt") [] (Fixed (C ∷ C ∷ [])) (C ∷ []) uses.Nothing
+table ops.Lte = throwing (codes "Lte") [] (Fixed (C ∷ C ∷ [])) (C ∷ []) uses.Nothing
+table ops.Gt = throwing (codes "Gt") [] (Fixed (C ∷ C ∷ [])) (C ∷ []) uses.Nothing
+table ops.Gte = throwing (codes "Gte") [] (Fixed (C ∷ C ∷ [])) (C ∷ []) uses.Nothing
+table ops.Cmp = throwing (codes "Cmp") [] (Fixed (C ∷ C ∷ [])) (C ∷ []) uses.Nothing
+table ops.BitNot = throwing (codes "BitNot") [] (Fixed (C ∷ [])) (C ∷ []) uses.Nothing
+table ops.CastInt = throwing (codes "CastInt") [] (Fixed (C ∷ [])) (C ∷ []) uses.Nothing
+table ops.CastString = throwing (codes "CastString") [] (Fixed (C ∷ [])) (C ∷ []) uses.Nothing
+table ops.Not = plain (codes "Not") [] (Fixed (C ∷ [])) (C ∷ []) uses.Nothing
+table ops.CastBool = plain (codes "CastBool") [] (Fixed (C ∷ [])) (C ∷ []) uses.Nothing
+table ops.IsTypeC = plain (codes "IsTypeC") (kinds.IsType ∷ []) (Fixed (C ∷ [])) (C ∷ []) uses.Nothing
+table ops.IsTypeL = throwing (codes "IsTypeL") (kinds.Local ∷ kinds.IsType ∷ []) (Fixed []) (C ∷ []) uses.ReadsLocal
+table ops.InstanceOfD = plain (codes "InstanceOfD") (kinds.Class ∷ []) (Fixed (C ∷ [])) (C ∷ []) uses.Nothing
+table ops.NewVec = plain (codes "NewVec") (kinds.Count ∷ []) (Counted []) (C ∷ []) uses.Nothing
+table ops.NewKeysetArray = throwing (codes "NewKeysetArray") (kinds.Count ∷ []) (Counted []) (C ∷ []) uses.Nothing
+table ops.NewDictArray = plain (codes "NewDictArray") (kinds.Count ∷ []) (Fixed []) (C ∷ []) uses.Nothing
+table ops.AddElemC = throwing (codes "AddElemC") [] (Fixed (C ∷ C ∷ C ∷ [])) (C ∷ []) uses.Nothing
+table ops.AddNewElemC = throwing (codes "AddNewElemC") [] (Fixed (C ∷ C ∷ [])) (C ∷ []) uses.Nothing
+table ops.Jmp = ending (codes "Jmp") (kinds.Label ∷ []) (Fixed []) [] uses.Nothing
+table ops.JmpZ = plain (codes "JmpZ") (kinds.Label ∷ []) (Fixed (C ∷ [])) [] uses.Nothing
+table ops.JmpNZ = plain (codes "JmpNZ") (kinds.Label ∷ []) (Fixed (C ∷ [])) [] uses.Nothing
+table ops.Switch = ending (codes "Switch") (kinds.Int ∷ kinds.Switch ∷ []) (Fixed (C ∷ [])) [] uses.Nothing
+table ops.SSwitch = ending (codes "SSwitch") (kinds.SSwitch ∷ []) (Fixed (C ∷ [])) [] uses.Nothing
+table ops.RetC = ending (codes "RetC") [] (Fixed (C ∷ [])) [] uses.Nothing
+table ops.Throw = raising (codes "Throw") [] (Fixed (C ∷ [])) [] uses.Nothing
+table ops.Fatal = ending (codes "Fatal") [] (Fixed (C ∷ [])) [] uses.Nothing
+table ops.ClsCnsD = plain (codes "ClsCnsD") (kinds.Name ∷ kinds.Class ∷ []) (Fixed []) (C ∷ []) uses.Nothing
+table ops.FCallFuncD = throwing (codes "FCallFuncD") (kinds.Count ∷ kinds.Name ∷ []) (Counted (U ∷ U ∷ [])) (C ∷ []) uses.Nothing
+table ops.FCallObjMethodD = throwing (codes "FCallObjMethodD") (kinds.Count ∷ kinds.Name ∷ []) (Counted (U ∷ C ∷ [])) (C ∷ []) uses.Nothing
+table ops.FCallClsMethodD = throwing (codes "FCallClsMethodD") (kinds.Count ∷ kinds.Name ∷ kinds.Class ∷ []) (Counted (U ∷ U ∷ [])) (C ∷ []) uses.Nothing
+table ops.NewObjD = plain (codes "NewObjD") (kinds.Class ∷ []) (Fixed []) (C ∷ []) uses.Nothing
+table ops.FCallCtor = throwing (codes "FCallCtor") (kinds.Count ∷ []) (Counted (U ∷ C ∷ [])) (C ∷ []) uses.Nothing
+table ops.LockObj = throwing (codes "LockObj") [] (Fixed (C ∷ [])) (C ∷ []) uses.Nothing
+table ops.This = throwing (codes "This") [] (Fixed []) (C ∷ []) uses.Nothing
+table ops.BareThis = plain (codes "BareThis") [] (Fixed []) (C ∷ []) uses.Nothing
+table ops.CheckThis = throwing (codes "CheckThis") [] (Fixed []) [] uses.Nothing
+table ops.IterInit = throwing (codes "IterInit") (kinds.Iter ∷ kinds.IterLocals ∷ kinds.Label ∷ []) (Fixed (C ∷ [])) [] uses.BeginsIter
+table ops.IterNext = plain (codes "IterNext") (kinds.Iter ∷ kinds.IterLocals ∷ kinds.Label ∷ []) (Fixed []) [] uses.AdvancesIter
+table ops.IterFree = plain (codes "IterFree") (kinds.Iter ∷ []) (Fixed []) [] uses.FreesIter
+table ops.VerifyParamType = throwing (codes "VerifyParamType") (kinds.Local ∷ kinds.Constraint ∷ []) (Fixed []) [] uses.ReadsLocal
+table ops.VerifyRetTypeC = throwing (codes "VerifyRetTypeC") (kinds.Constraint ∷ []) (Fixed (C ∷ [])) (C ∷ []) uses.Nothing
+table ops.Print = throwing (codes "Print") [] (Fixed (C ∷ [])) (C ∷ []) uses.Nothing
 
 abbrev pub op_name : Op → List ℕ
 op_name op = (table op).name
@@ -121,6 +141,15 @@ op_throws op = (table op).throws
 
 abbrev pub op_goes_on : Op → Bool
 op_goes_on op = (table op).next
+
+abbrev pub slots_popped : Op → Pops
+slots_popped op = (table op).pops
+
+abbrev pub slots_pushed : Op → List Flavour
+slots_pushed op = (table op).pushes
+
+abbrev pub operand_use : Op → OperandUse
+operand_use op = (table op).operand
 
 -- the instructions whose names have so many bytes
 abbrev pub of_length : ℕ → List Op

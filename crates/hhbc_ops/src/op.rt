@@ -1,9 +1,11 @@
 ghost use Rattle.std.specs.Prelude.{◌≡◌, ◌≢◌, MatchOption, Some};
 ghost use Rattle.hhbc_ops.specs.Ops.{op_name, kinds_of, op_throws, op_goes_on};
+ghost use Rattle.hhbc_ops.specs.Stacks.{told_pops};
+ghost use Rattle.hhbc_ops.specs.Ops as ops;
 
 use crate::named::{Named, first_named};
 use crate::table::{of_length, row_of};
-use crate::words::ImmKind;
+use crate::words::{Flavour, ImmKind, OperandUse, Pops};
 
 /// An instruction, without its operands.
 #[derive(Clone, Copy, Debug, PartialEq, Eq)]
@@ -117,6 +119,27 @@ pub fn has_next(op: Op) -> bool
     ensures { result ≡ op_goes_on op }
 {
     row_of(op).next
+}
+
+/// The slots that the instruction takes off the stack.
+pub fn slots_popped(op: Op) -> Pops
+    ensures { told_pops result ≡ ops.slots_popped op }
+{
+    row_of(op).stack.pops()
+}
+
+/// The slots that the instruction puts on the stack, the topmost first.
+pub fn slots_pushed(op: Op) -> &'static [Flavour]
+    ensures { result.now ≡ ops.slots_pushed op }
+{
+    row_of(op).stack.pushes()
+}
+
+/// What the instruction does with the local or the iterator that is its first operand.
+pub fn operand_use(op: Op) -> OperandUse
+    ensures { result ≡ ops.operand_use op }
+{
+    row_of(op).operand
 }
 
 impl Named for Op {

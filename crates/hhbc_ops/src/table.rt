@@ -1,9 +1,21 @@
 ghost use Rattle.std.specs.Prelude.{◌≡◌, true, false};
 ghost use Rattle.hhbc_ops.specs.Ops as ops;
 ghost use Rattle.hhbc_ops.specs.Ops.{IsRow};
+ghost use Rattle.hhbc_ops.specs.Stacks.{stack_pops, stack_pushes};
 
 use crate::op::Op;
-use crate::words::ImmKind;
+use crate::stack_use::StackUse;
+use crate::stack_use::StackUse::{
+    CCCToC, CCToC, CToC, CToCC, CallToC, CellsToC, DropC, DropU, MethodCallToC, ToC, ToU, Untouched,
+};
+use crate::words::ImmKind::{
+    Class, Constraint, Count, IncDec, Int, IsType, Iter, IterLocals, Label, Local, Name, SSwitch,
+    SetOp, Str, Switch,
+};
+use crate::words::OperandUse::{
+    AdvancesIter, BeginsIter, FreesIter, Nothing, ReadsLocal, SetsLocal,
+};
+use crate::words::{ImmKind, OperandUse};
 
 /// A row of the table of instructions.
 #[derive(Clone, Copy)]
@@ -12,53 +24,66 @@ pub(crate) struct Row {
     pub kinds: &'static [ImmKind],
     pub throws: bool,
     pub next: bool,
+    pub stack: StackUse,
+    pub operand: OperandUse,
 }
 
 /// An instruction that raises nothing and goes on.
-fn plain(name: &'static str, kinds: &'static [ImmKind]) -> Row
-    ensures { IsRow result (ops.plain name.now kinds.now) }
+fn plain(name: &'static str, kinds: &'static [ImmKind], stack: StackUse, operand: OperandUse) -> Row
+    ensures { IsRow result (ops.plain name.now kinds.now (stack_pops stack) (stack_pushes stack) operand) }
 {
     Row {
         name,
         kinds,
         throws: false,
         next: true,
+        stack,
+        operand,
     }
 }
 
 /// An instruction that may raise an exception, and goes on otherwise.
-fn throwing(name: &'static str, kinds: &'static [ImmKind]) -> Row
-    ensures { IsRow result (ops.throwing name.now kinds.now) }
+fn throwing(
+    name: &'static str,
+    kinds: &'static [ImmKind],
+    stack: StackUse,
+    operand: OperandUse,
+) -> Row
+    ensures { IsRow result (ops.throwing name.now kinds.now (stack_pops stack) (stack_pushes stack) operand) }
 {
     Row {
-        name,
-        kinds,
         throws: true,
-        next: true,
+        ..plain(name, kinds, stack, operand)
     }
 }
 
 /// An instruction that never goes on to the position behind it.
-fn ending(name: &'static str, kinds: &'static [ImmKind]) -> Row
-    ensures { IsRow result (ops.ending name.now kinds.now) }
+fn ending(
+    name: &'static str,
+    kinds: &'static [ImmKind],
+    stack: StackUse,
+    operand: OperandUse,
+) -> Row
+    ensures { IsRow result (ops.ending name.now kinds.now (stack_pops stack) (stack_pushes stack) operand) }
 {
     Row {
-        name,
-        kinds,
-        throws: false,
         next: false,
+        ..plain(name, kinds, stack, operand)
     }
 }
 
 /// An instruction that raises an exception in any case.
-fn raising(name: &'static str, kinds: &'static [ImmKind]) -> Row
-    ensures { IsRow result (ops.raising name.now kinds.now) }
+fn raising(
+    name: &'static str,
+    kinds: &'static [ImmKind],
+    stack: StackUse,
+    operand: OperandUse,
+) -> Row
+    ensures { IsRow result (ops.raising name.now kinds.now (stack_pops stack) (stack_pushes stack) operand) }
 {
     Row {
-        name,
-        kinds,
-        throws: true,
         next: false,
+        ..throwing(name, kinds, stack, operand)
     }
 }
 
@@ -67,88 +92,89 @@ pub(crate) fn row_of(op: Op) -> Row
     ensures { IsRow result (ops.table op) }
 {
     match op {
-        Op::Nop => plain("Nop", &[]),
-        Op::Null => plain("Null", &[]),
-        Op::True => plain("True", &[]),
-        Op::False => plain("False", &[]),
-        Op::Int => plain("Int", &[ImmKind::Int]),
-        Op::String => plain("String", &[ImmKind::Str]),
-        Op::NullUninit => plain("NullUninit", &[]),
-        Op::PopC => plain("PopC", &[]),
-        Op::PopU => plain("PopU", &[]),
-        Op::Dup => plain("Dup", &[]),
-        Op::PopL => plain("PopL", &[ImmKind::Local]),
-        Op::SetL => plain("SetL", &[ImmKind::Local]),
-        Op::CGetL => throwing("CGetL", &[ImmKind::Local]),
-        Op::CGetQuietL => plain("CGetQuietL", &[ImmKind::Local]),
-        Op::CGetL2 => throwing("CGetL2", &[ImmKind::Local]),
-        Op::PushL => throwing("PushL", &[ImmKind::Local]),
-        Op::UnsetL => plain("UnsetL", &[ImmKind::Local]),
-        Op::SetOpL => throwing("SetOpL", &[ImmKind::Local, ImmKind::SetOp]),
-        Op::IncDecL => throwing("IncDecL", &[ImmKind::Local, ImmKind::IncDec]),
-        Op::Concat => throwing("Concat", &[]),
-        Op::Add => throwing("Add", &[]),
-        Op::Sub => throwing("Sub", &[]),
-        Op::Mul => throwing("Mul", &[]),
-        Op::Mod => throwing("Mod", &[]),
-        Op::BitAnd => throwing("BitAnd", &[]),
-        Op::BitOr => throwing("BitOr", &[]),
-        Op::BitXor => throwing("BitXor", &[]),
-        Op::Shl => throwing("Shl", &[]),
-        Op::Shr => throwing("Shr", &[]),
-        Op::Same => plain("Same", &[]),
-        Op::NSame => plain("NSame", &[]),
-        Op::Lt => throwing("Lt", &[]),
-        Op::Lte => throwing("Lte", &[]),
-        Op::Gt => throwing("Gt", &[]),
-        Op::Gte => throwing("Gte", &[]),
-        Op::Cmp => throwing("Cmp", &[]),
-        Op::BitNot => throwing("BitNot", &[]),
-        Op::CastInt => throwing("CastInt", &[]),
-        Op::CastString => throwing("CastString", &[]),
-        Op::Not => plain("Not", &[]),
-        Op::CastBool => plain("CastBool", &[]),
-        Op::IsTypeC => plain("IsTypeC", &[ImmKind::IsType]),
-        Op::IsTypeL => throwing("IsTypeL", &[ImmKind::Local, ImmKind::IsType]),
-        Op::InstanceOfD => plain("InstanceOfD", &[ImmKind::Class]),
-        Op::NewVec => plain("NewVec", &[ImmKind::Count]),
-        Op::NewKeysetArray => throwing("NewKeysetArray", &[ImmKind::Count]),
-        Op::NewDictArray => plain("NewDictArray", &[ImmKind::Count]),
-        Op::AddElemC => throwing("AddElemC", &[]),
-        Op::AddNewElemC => throwing("AddNewElemC", &[]),
-        Op::Jmp => ending("Jmp", &[ImmKind::Label]),
-        Op::JmpZ => plain("JmpZ", &[ImmKind::Label]),
-        Op::JmpNZ => plain("JmpNZ", &[ImmKind::Label]),
-        Op::Switch => ending("Switch", &[ImmKind::Int, ImmKind::Switch]),
-        Op::SSwitch => ending("SSwitch", &[ImmKind::SSwitch]),
-        Op::RetC => ending("RetC", &[]),
-        Op::Throw => raising("Throw", &[]),
-        Op::Fatal => ending("Fatal", &[]),
-        Op::ClsCnsD => plain("ClsCnsD", &[ImmKind::Name, ImmKind::Class]),
-        Op::FCallFuncD => throwing("FCallFuncD", &[ImmKind::Count, ImmKind::Name]),
-        Op::FCallObjMethodD => throwing("FCallObjMethodD", &[ImmKind::Count, ImmKind::Name]),
-        Op::FCallClsMethodD => throwing(
-            "FCallClsMethodD",
-            &[ImmKind::Count, ImmKind::Name, ImmKind::Class],
-        ),
-        Op::NewObjD => plain("NewObjD", &[ImmKind::Class]),
-        Op::FCallCtor => throwing("FCallCtor", &[ImmKind::Count]),
-        Op::LockObj => throwing("LockObj", &[]),
-        Op::This => throwing("This", &[]),
-        Op::BareThis => plain("BareThis", &[]),
-        Op::CheckThis => throwing("CheckThis", &[]),
-        Op::IterInit => throwing(
-            "IterInit",
-            &[ImmKind::Iter, ImmKind::IterLocals, ImmKind::Label],
-        ),
+        Op::Nop => plain("Nop", &[], Untouched, Nothing),
+        Op::Null => plain("Null", &[], ToC, Nothing),
+        Op::True => plain("True", &[], ToC, Nothing),
+        Op::False => plain("False", &[], ToC, Nothing),
+        Op::Int => plain("Int", &[Int], ToC, Nothing),
+        Op::String => plain("String", &[Str], ToC, Nothing),
+        Op::NullUninit => plain("NullUninit", &[], ToU, Nothing),
+        Op::PopC => plain("PopC", &[], DropC, Nothing),
+        Op::PopU => plain("PopU", &[], DropU, Nothing),
+        Op::Dup => plain("Dup", &[], CToCC, Nothing),
+        Op::PopL => plain("PopL", &[Local], DropC, SetsLocal),
+        Op::SetL => plain("SetL", &[Local], CToC, SetsLocal),
+        Op::CGetL => throwing("CGetL", &[Local], ToC, ReadsLocal),
+        Op::CGetQuietL => plain("CGetQuietL", &[Local], ToC, ReadsLocal),
+        Op::CGetL2 => throwing("CGetL2", &[Local], CToCC, ReadsLocal),
+        Op::PushL => throwing("PushL", &[Local], ToC, ReadsLocal),
+        Op::UnsetL => plain("UnsetL", &[Local], Untouched, SetsLocal),
+        Op::SetOpL => throwing("SetOpL", &[Local, SetOp], CToC, ReadsLocal),
+        Op::IncDecL => throwing("IncDecL", &[Local, IncDec], ToC, ReadsLocal),
+        Op::Concat => throwing("Concat", &[], CCToC, Nothing),
+        Op::Add => throwing("Add", &[], CCToC, Nothing),
+        Op::Sub => throwing("Sub", &[], CCToC, Nothing),
+        Op::Mul => throwing("Mul", &[], CCToC, Nothing),
+        Op::Mod => throwing("Mod", &[], CCToC, Nothing),
+        Op::BitAnd => throwing("BitAnd", &[], CCToC, Nothing),
+        Op::BitOr => throwing("BitOr", &[], CCToC, Nothing),
+        Op::BitXor => throwing("BitXor", &[], CCToC, Nothing),
+        Op::Shl => throwing("Shl", &[], CCToC, Nothing),
+        Op::Shr => throwing("Shr", &[], CCToC, Nothing),
+        Op::Same => plain("Same", &[], CCToC, Nothing),
+        Op::NSame => plain("NSame", &[], CCToC, Nothing),
+        Op::Lt => throwing("Lt", &[], CCToC, Nothing),
+        Op::Lte => throwing("Lte", &[], CCToC, Nothing),
+        Op::Gt => throwing("Gt", &[], CCToC, Nothing),
+        Op::Gte => throwing("Gte", &[], CCToC, Nothing),
+        Op::Cmp => throwing("Cmp", &[], CCToC, Nothing),
+        Op::BitNot => throwing("BitNot", &[], CToC, Nothing),
+        Op::CastInt => throwing("CastInt", &[], CToC, Nothing),
+        Op::CastString => throwing("CastString", &[], CToC, Nothing),
+        Op::Not => plain("Not", &[], CToC, Nothing),
+        Op::CastBool => plain("CastBool", &[], CToC, Nothing),
+        Op::IsTypeC => plain("IsTypeC", &[IsType], CToC, Nothing),
+        Op::IsTypeL => throwing("IsTypeL", &[Local, IsType], ToC, ReadsLocal),
+        Op::InstanceOfD => plain("InstanceOfD", &[Class], CToC, Nothing),
+        Op::NewVec => plain("NewVec", &[Count], CellsToC, Nothing),
+        Op::NewKeysetArray => throwing("NewKeysetArray", &[Count], CellsToC, Nothing),
+        Op::NewDictArray => plain("NewDictArray", &[Count], ToC, Nothing),
+        Op::AddElemC => throwing("AddElemC", &[], CCCToC, Nothing),
+        Op::AddNewElemC => throwing("AddNewElemC", &[], CCToC, Nothing),
+        Op::Jmp => ending("Jmp", &[Label], Untouched, Nothing),
+        Op::JmpZ => plain("JmpZ", &[Label], DropC, Nothing),
+        Op::JmpNZ => plain("JmpNZ", &[Label], DropC, Nothing),
+        Op::Switch => ending("Switch", &[Int, Switch], DropC, Nothing),
+        Op::SSwitch => ending("SSwitch", &[SSwitch], DropC, Nothing),
+        Op::RetC => ending("RetC", &[], DropC, Nothing),
+        Op::Throw => raising("Throw", &[], DropC, Nothing),
+        Op::Fatal => ending("Fatal", &[], DropC, Nothing),
+        Op::ClsCnsD => plain("ClsCnsD", &[Name, Class], ToC, Nothing),
+        Op::FCallFuncD => throwing("FCallFuncD", &[Count, Name], CallToC, Nothing),
+        Op::FCallObjMethodD => throwing("FCallObjMethodD", &[Count, Name], MethodCallToC, Nothing),
+        Op::FCallClsMethodD => throwing("FCallClsMethodD", &[Count, Name, Class], CallToC, Nothing),
+        Op::NewObjD => plain("NewObjD", &[Class], ToC, Nothing),
+        Op::FCallCtor => throwing("FCallCtor", &[Count], MethodCallToC, Nothing),
+        Op::LockObj => throwing("LockObj", &[], CToC, Nothing),
+        Op::This => throwing("This", &[], ToC, Nothing),
+        Op::BareThis => plain("BareThis", &[], ToC, Nothing),
+        Op::CheckThis => throwing("CheckThis", &[], Untouched, Nothing),
+        Op::IterInit => throwing("IterInit", &[Iter, IterLocals, Label], DropC, BeginsIter),
         Op::IterNext => plain(
             "IterNext",
-            &[ImmKind::Iter, ImmKind::IterLocals, ImmKind::Label],
+            &[Iter, IterLocals, Label],
+            Untouched,
+            AdvancesIter,
         ),
-        Op::IterFree => plain("IterFree", &[ImmKind::Iter]),
-        Op::VerifyParamType => throwing("VerifyParamType", &[ImmKind::Local, ImmKind::Constraint]),
-        Op::VerifyRetTypeC => throwing("VerifyRetTypeC", &[ImmKind::Constraint]),
-        Op::Print => throwing("Print", &[]),
+        Op::IterFree => plain("IterFree", &[Iter], Untouched, FreesIter),
+        Op::VerifyParamType => throwing(
+            "VerifyParamType",
+            &[Local, Constraint],
+            Untouched,
+            ReadsLocal,
+        ),
+        Op::VerifyRetTypeC => throwing("VerifyRetTypeC", &[Constraint], CToC, Nothing),
+        Op::Print => throwing("Print", &[], CToC, Nothing),
     }
 }
 

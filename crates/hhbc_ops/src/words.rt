@@ -5,6 +5,32 @@ pub enum Flavour {
     U,
 }
 
+/// The slots that an instruction takes off the stack, the topmost first.
+#[derive(Clone, Copy)]
+pub enum Pops {
+    /// Slots of these flavours.
+    Fixed(&'static [Flavour]),
+    /// As many cells as its count says, and below them slots of these flavours.
+    Counted(&'static [Flavour]),
+}
+
+/// What an instruction does with the local or the iterator that is its first operand.
+#[derive(Clone, Copy, Debug, PartialEq, Eq)]
+pub enum OperandUse {
+    /// Its first operand is neither.
+    Nothing,
+    /// It reads or tests the local, and may set it.
+    ReadsLocal,
+    /// It sets the local, and doesn't look at it.
+    SetsLocal,
+    /// It begins the iterator at a first element.
+    BeginsIter,
+    /// It takes the iterator's next element.
+    AdvancesIter,
+    /// It ends the iterator.
+    FreesIter,
+}
+
 /// The operator of a compound assignment.
 #[derive(Clone, Copy, Debug, PartialEq, Eq)]
 pub enum SetOpOp {

@@ -1,9 +1,12 @@
 -- What the table of instructions says of each code.
 use Rattle.std.specs.Prelude.{ℕ, ℤ, pos, Bool, true, ◌==◌, List, [], ◌∷◌, ◌++◌, map, flat_map, replicate, Option, Some, None, if◌then◌else◌}
 use Rattle.hhbc_ops.specs.declared.op.Op.{Op}
-use Rattle.hhbc_ops.specs.declared.op.Op.TheVariants as ops
 pub use Rattle.hhbc_ops.specs.declared.words.Flavour.{Flavour}
 pub use Rattle.hhbc_ops.specs.declared.words.Flavour.TheVariants.{C, U}
+use Rattle.hhbc_ops.specs.declared.words.OperandUse.{OperandUse}
+use Rattle.hhbc_ops.specs.declared.words.OperandUse.TheVariants as uses
+use Rattle.hhbc_ops.specs.Ops.{slots_popped, slots_pushed, operand_use}
+use Rattle.hhbc_ops.specs.Stacks.{Pops, Fixed, Counted}
 pub use Rattle.hhbc_ops.specs.Ops.{op_throws, op_goes_on}
 use Rattle.hhbc_repo.specs.declared.code.Code.{Code}
 use Rattle.hhbc_repo.specs.declared.code.Code.TheVariants as kinds
@@ -41,12 +44,6 @@ pub record Stack : Type 0 where
 abbrev pub some_cells : ℕ → List Flavour
 some_cells n = replicate n C
 
-abbrev pub untouched : Stack
-untouched = record { pops = []; pushes = [] }
-
-abbrev pub gives : List Flavour → Stack
-gives pushes = record { pops = []; pushes = pushes }
-
 abbrev pub takes : List Flavour → Stack
 takes pops = record { pops = pops; pushes = [] }
 
@@ -56,80 +53,13 @@ turns pops pushes = record { pops = pops; pushes = pushes }
 abbrev pub to_cell : List Flavour → Stack
 to_cell pops = turns pops (C ∷ [])
 
+-- the slots that an instruction with these operands takes away
+abbrev pub popped_by : Pops → List Imm → List Flavour
+popped_by (Fixed flavours) is = flavours
+popped_by (Counted flavours) is = some_cells (count_of is) ++ flavours
+
 abbrev pub op_stack : Op → List Imm → Stack
-op_stack ops.Nop is = untouched
-op_stack ops.Null is = gives (C ∷ [])
-op_stack ops.True is = gives (C ∷ [])
-op_stack ops.False is = gives (C ∷ [])
-op_stack ops.Int is = gives (C ∷ [])
-op_stack ops.String is = gives (C ∷ [])
-op_stack ops.NullUninit is = gives (U ∷ [])
-op_stack ops.PopC is = takes (C ∷ [])
-op_stack ops.PopU is = takes (U ∷ [])
-op_stack ops.Dup is = turns (C ∷ []) (C ∷ C ∷ [])
-op_stack ops.PopL is = takes (C ∷ [])
-op_stack ops.SetL is = to_cell (C ∷ [])
-op_stack ops.CGetL is = gives (C ∷ [])
-op_stack ops.CGetQuietL is = gives (C ∷ [])
-op_stack ops.CGetL2 is = turns (C ∷ []) (C ∷ C ∷ [])
-op_stack ops.PushL is = gives (C ∷ [])
-op_stack ops.UnsetL is = untouched
-op_stack ops.SetOpL is = to_cell (C ∷ [])
-op_stack ops.IncDecL is = gives (C ∷ [])
-op_stack ops.Concat is = to_cell (C ∷ C ∷ [])
-op_stack ops.Add is = to_cell (C ∷ C ∷ [])
-op_stack ops.Sub is = to_cell (C ∷ C ∷ [])
-op_stack ops.Mul is = to_cell (C ∷ C ∷ [])
-op_stack ops.Mod is = to_cell (C ∷ C ∷ [])
-op_stack ops.BitAnd is = to_cell (C ∷ C ∷ [])
-op_stack ops.BitOr is = to_cell (C ∷ C ∷ [])
-op_stack ops.BitXor is = to_cell (C ∷ C ∷ [])
-op_stack ops.Shl is = to_cell (C ∷ C ∷ [])
-op_stack ops.Shr is = to_cell (C ∷ C ∷ [])
-op_stack ops.Same is = to_cell (C ∷ C ∷ [])
-op_stack ops.NSame is = to_cell (C ∷ C ∷ [])
-op_stack ops.Lt is = to_cell (C ∷ C ∷ [])
-op_stack ops.Lte is = to_cell (C ∷ C ∷ [])
-op_stack ops.Gt is = to_cell (C ∷ C ∷ [])
-op_stack ops.Gte is = to_cell (C ∷ C ∷ [])
-op_stack ops.Cmp is = to_cell (C ∷ C ∷ [])
-op_stack ops.BitNot is = to_cell (C ∷ [])
-op_stack ops.CastInt is = to_cell (C ∷ [])
-op_stack ops.CastString is = to_cell (C ∷ [])
-op_stack ops.Not is = to_cell (C ∷ [])
-op_stack ops.CastBool is = to_cell (C ∷ [])
-op_stack ops.IsTypeC is = to_cell (C ∷ [])
-op_stack ops.IsTypeL is = gives (C ∷ [])
-op_stack ops.InstanceOfD is = to_cell (C ∷ [])
-op_stack ops.NewVec is = to_cell (some_cells (count_of is))
-op_stack ops.NewKeysetArray is = to_cell (some_cells (count_of is))
-op_stack ops.NewDictArray is = gives (C ∷ [])
-op_stack ops.AddElemC is = to_cell (C ∷ C ∷ C ∷ [])
-op_stack ops.AddNewElemC is = to_cell (C ∷ C ∷ [])
-op_stack ops.Jmp is = untouched
-op_stack ops.JmpZ is = takes (C ∷ [])
-op_stack ops.JmpNZ is = takes (C ∷ [])
-op_stack ops.Switch is = takes (C ∷ [])
-op_stack ops.SSwitch is = takes (C ∷ [])
-op_stack ops.RetC is = takes (C ∷ [])
-op_stack ops.Throw is = takes (C ∷ [])
-op_stack ops.Fatal is = takes (C ∷ [])
-op_stack ops.ClsCnsD is = gives (C ∷ [])
-op_stack ops.FCallFuncD is = to_cell (some_cells (count_of is) ++ U ∷ U ∷ [])
-op_stack ops.FCallObjMethodD is = to_cell (some_cells (count_of is) ++ U ∷ C ∷ [])
-op_stack ops.FCallClsMethodD is = to_cell (some_cells (count_of is) ++ U ∷ U ∷ [])
-op_stack ops.NewObjD is = gives (C ∷ [])
-op_stack ops.FCallCtor is = to_cell (some_cells (count_of is) ++ U ∷ C ∷ [])
-op_stack ops.LockObj is = to_cell (C ∷ [])
-op_stack ops.This is = gives (C ∷ [])
-op_stack ops.BareThis is = gives (C ∷ [])
-op_stack ops.CheckThis is = untouched
-op_stack ops.IterInit is = takes (C ∷ [])
-op_stack ops.IterNext is = untouched
-op_stack ops.IterFree is = untouched
-op_stack ops.VerifyParamType is = untouched
-op_stack ops.VerifyRetTypeC is = to_cell (C ∷ [])
-op_stack ops.Print is = to_cell (C ∷ [])
+op_stack op is = turns (popped_by (slots_popped op) is) (slots_pushed op)
 
 abbrev pub op_pops : Op → List Imm → List Flavour
 op_pops op is = (op_stack op is).pops
@@ -138,16 +68,16 @@ abbrev pub op_pushes : Op → List Imm → List Flavour
 op_pushes op is = (op_stack op is).pushes
 
 -- the locals that it reads or tests, in order
+abbrev pub read_by : OperandUse → List Imm → List ℕ
+read_by uses.Nothing is = []
+read_by uses.ReadsLocal is = local_of is ∷ []
+read_by uses.SetsLocal is = []
+read_by uses.BeginsIter is = []
+read_by uses.AdvancesIter is = []
+read_by uses.FreesIter is = []
+
 abbrev pub op_reads : Op → List Imm → List ℕ
-op_reads ops.CGetL is = local_of is ∷ []
-op_reads ops.CGetQuietL is = local_of is ∷ []
-op_reads ops.CGetL2 is = local_of is ∷ []
-op_reads ops.PushL is = local_of is ∷ []
-op_reads ops.SetOpL is = local_of is ∷ []
-op_reads ops.IncDecL is = local_of is ∷ []
-op_reads ops.IsTypeL is = local_of is ∷ []
-op_reads ops.VerifyParamType is = local_of is ∷ []
-op_reads _ is = []
+op_reads op is = read_by (operand_use op) is
 
 -- the operand that is an iterator
 abbrev pub iter_of : List Imm → ℕ
@@ -160,11 +90,16 @@ pub data IterUse : Type 0 where
   Advance : ℕ → IterUse
   Free : ℕ → IterUse
 
+abbrev pub iter_used_by : OperandUse → List Imm → Option IterUse
+iter_used_by uses.Nothing is = None
+iter_used_by uses.ReadsLocal is = None
+iter_used_by uses.SetsLocal is = None
+iter_used_by uses.BeginsIter is = Some (Begin (iter_of is))
+iter_used_by uses.AdvancesIter is = Some (Advance (iter_of is))
+iter_used_by uses.FreesIter is = Some (Free (iter_of is))
+
 abbrev pub op_iter : Op → List Imm → Option IterUse
-op_iter ops.IterInit is = Some (Begin (iter_of is))
-op_iter ops.IterNext is = Some (Advance (iter_of is))
-op_iter ops.IterFree is = Some (Free (iter_of is))
-op_iter _ is = None
+op_iter op is = iter_used_by (operand_use op) is
 
 -- the slots that a member sequence takes away, the value to be set on top, and what it puts there
 abbrev pub final_stack : Final → Stack

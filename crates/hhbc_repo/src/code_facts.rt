@@ -1,13 +1,13 @@
-//! What is known of a code by itself: whether it may raise an exception, what it reads and what it takes away.
+//! What is known of a code by itself: whether it may raise an exception, whether it goes on, what it reads and where it leads.
 
-ghost use Rattle.std.specs.Prelude.{◌≡◌, ◌∷◌, ◌++◌, List, ℕ, length, IfOk, OnOk};
+ghost use Rattle.std.specs.Prelude.{◌≡◌, ◌++◌, List, ℕ, map, IfOk, OnOk};
 ghost use Rattle.std.specs.List.{flat_map};
 ghost use Rattle.hhbc_repo.specs.Codes as codes;
 ghost use Rattle.hhbc_repo.specs.EachOnce.{joined, perhaps};
 
-use crate::code::{Base, Code, Final, Imm, Instr, MemberKey, MemberSeq};
+use crate::code::{Arm, Base, Code, Final, Imm, Instr, MemberKey, MemberSeq};
 use hack_values::{NoMemory, Seq};
-use hhbc_ops::{Op, may_throw};
+use hhbc_ops::{OperandUse, has_next, may_throw, operand_use};
 use std::alloc::Global;
 
 /// Whether the code may raise an exception.
@@ -20,13 +20,13 @@ pub fn code_may_throw(code: &Code) -> bool
     }
 }
 
-/// The count among the operands, which is the first one.
-fn count_of(imms: &[Imm]) -> u16
-    ensures { result ≡ codes.count_of imms.now }
+/// Whether the position behind the code may come next.
+pub fn code_goes_on(code: &Code) -> bool
+    ensures { result ≡ codes.goes_on code.now }
 {
-    match imms {
-        [Imm::Count(count), ..] => *count,
-        _ => 0,
+    match code {
+        Code::Plain(instr) => has_next(instr.op),
+        Code::Member(_) => true,
     }
 }
 
@@ -40,99 +40,17 @@ fn local_of(imms: &[Imm]) -> u8
     }
 }
 
-/// How many slots an instruction takes away.
-fn instruction_pops(instr: &Instr) -> u32
-    ensures { result ≡ length (codes.op_pops instr.now.op instr.now.imms) }
+/// The local among the operands, where it is read or tested.
+fn local_read_by(operand: OperandUse, imms: &[Imm]) -> Option<u8>
+    ensures { perhaps result ≡ codes.read_by operand imms.now }
 {
-    match instr.op {
-        Op::NewVec | Op::NewKeysetArray => count_of(instr.imms.as_slice()) as u32,
-        Op::FCallFuncD | Op::FCallObjMethodD | Op::FCallClsMethodD | Op::FCallCtor => {
-            count_of(instr.imms.as_slice()) as u32 + 2
-        }
-        Op::AddElemC => 3,
-        Op::Concat
-        | Op::Add
-        | Op::Sub
-        | Op::Mul
-        | Op::Mod
-        | Op::BitAnd
-        | Op::BitOr
-        | Op::BitXor
-        | Op::Shl
-        | Op::Shr
-        | Op::Same
-        | Op::NSame
-        | Op::Lt
-        | Op::Lte
-        | Op::Gt
-        | Op::Gte
-        | Op::Cmp
-        | Op::AddNewElemC => 2,
-        Op::PopC
-        | Op::PopU
-        | Op::Dup
-        | Op::PopL
-        | Op::SetL
-        | Op::CGetL2
-        | Op::SetOpL
-        | Op::BitNot
-        | Op::CastInt
-        | Op::CastString
-        | Op::Not
-        | Op::CastBool
-        | Op::IsTypeC
-        | Op::InstanceOfD
-        | Op::JmpZ
-        | Op::JmpNZ
-        | Op::Switch
-        | Op::SSwitch
-        | Op::RetC
-        | Op::Throw
-        | Op::Fatal
-        | Op::LockObj
-        | Op::IterInit
-        | Op::VerifyRetTypeC
-        | Op::Print => 1,
-        _ => 0,
-    }
-}
-
-/// How many slots a member sequence takes away, by what it does at its last key.
-fn final_pops(last: &Final) -> u32
-    ensures { result ≡ length ((codes.final_stack last.now).pops) }
-{
-    match last {
-        Final::Query(count, _, _) | Final::IncDec(count, _, _) | Final::Unset(count, _) => {
-            *count as u32
-        }
-        Final::Set(count, _) | Final::SetOp(count, _, _) => *count as u32 + 1,
-    }
-}
-
-/// How many slots the code takes off the stack.
-pub fn pops(code: &Code) -> u32
-    ensures { result ≡ length (codes.pops code.now) }
-{
-    match code {
-        Code::Plain(instr) => instruction_pops(instr),
-        Code::Member(sequence) => final_pops(&sequence.last),
-    }
-}
-
-/// The local that an instruction reads or tests.
-fn instruction_local(instr: &Instr) -> Option<u8>
-    ensures { perhaps result ≡ codes.op_reads instr.now.op instr.now.imms }
-{
-    match instr.op {
-        Op::CGetL
-        | Op::CGetQuietL
-        | Op::CGetL2
-        | Op::PushL
-        | Op::SetOpL
-        | Op::IncDecL
-        | Op::IsTypeL
-        | Op::VerifyParamType => Some(local_of(instr.imms.as_slice())),
-        _ => None,
+    match operand {
+        OperandUse::ReadsLocal => Some(local_of(imms)),
+        OperandUse::Nothing
+        | OperandUse::SetsLocal
+        | OperandUse::BeginsIter
+        | OperandUse::AdvancesIter
+        | OperandUse::FreesIter => None,
     }
 }
 
@@ -141,7 +59,7 @@ fn instruction_locals(alloc: Global, instr: &Instr) -> Result<Seq<u8>, NoMemory>
     ensures { IfOk result (λ locals. locals ≡ codes.op_reads instr.now.op instr.now.imms) }
 {
     let mut locals = Seq::new(alloc);
-    if let Some(local) = instruction_local(instr) {
+    if let Some(local) = local_read_by(operand_use(instr.op), instr.imms.as_slice()) {
         locals.push(local)?;
     }
     Ok(locals)
@@ -165,7 +83,8 @@ fn key_local(key: &MemberKey) -> Option<u8>
     }
 }
 
-fn last_key(last: &Final) -> &MemberKey
+/// The last key of a member sequence.
+pub fn last_key(last: &Final) -> &MemberKey
     ensures { result.now ≡ codes.last_key last.now }
 {
     match last {
@@ -220,5 +139,43 @@ pub fn reads_locals(alloc: Global, code: &Code) -> Result<Seq<u8>, NoMemory>
     match code {
         Code::Plain(instr) => instruction_locals(alloc, instr),
         Code::Member(sequence) => sequence_locals(alloc, sequence),
+    }
+}
+
+fn push_arm_labels(labels: &mut Seq<u32>, arms: &[Arm]) -> Result<(), NoMemory>
+    ensures { OnOk result (labels.new ≡ labels.old ++ map (λ a. a.target) arms.now) }
+{
+    for arm in arms {
+        labels.push(arm.target)?;
+    }
+    Ok(())
+}
+
+fn push_operand_labels(labels: &mut Seq<u32>, operand: &Imm) -> Result<(), NoMemory>
+    ensures { OnOk result (labels.new ≡ labels.old ++ codes.labels_in operand.now) }
+{
+    match operand {
+        Imm::Pos(position) => labels.push(*position),
+        Imm::Arms(arms) => push_arm_labels(labels, arms.as_slice()),
+        _ => Ok(()),
+    }
+}
+
+fn push_all_labels(labels: &mut Seq<u32>, operands: &[Imm]) -> Result<(), NoMemory>
+    ensures { OnOk result (labels.new ≡ labels.old ++ flat_map codes.labels_in operands.now) }
+{
+    for operand in operands {
+        push_operand_labels(labels, operand)?;
+    }
+    Ok(())
+}
+
+/// Adds the positions that the operands of the code name, in order.
+pub fn push_labels(labels: &mut Seq<u32>, code: &Code) -> Result<(), NoMemory>
+    ensures { OnOk result (labels.new ≡ labels.old ++ codes.labels code.now) }
+{
+    match code {
+        Code::Plain(instr) => push_all_labels(labels, instr.imms.as_slice()),
+        Code::Member(_) => Ok(()),
     }
 }

@@ -9,6 +9,7 @@ mod code;
 mod code_facts;
 mod declared;
 mod distinct_names;
+mod effects;
 mod first_numbers;
 mod fitting;
 mod homes;
@@ -42,7 +43,8 @@ mod whole_parts;
 
 pub use body::{Assert, Body, Position, Region};
 pub use code::{Arm, Base, Code, Final, Imm, Instr, MemberKey, MemberSeq};
-pub use code_facts::{code_may_throw, pops, reads_locals};
+pub use code_facts::{code_goes_on, code_may_throw, last_key, push_labels, reads_locals};
+pub use effects::{Effect, IterUse, effect_of, iter_use, pops};
 pub use fitting::{linked_bodies_keep_to_ranges, spelled_parts_fit};
 pub use link_fault::{LinkError, LinkFault, LinkKind};
 pub use linker::link;

@@ -1,7 +1,9 @@
 pub mod Bodies
 pub mod Flags
+pub mod Flavours
 pub mod Following
 pub mod LayoutRule
+pub mod Leaving
 pub mod Lives
 pub mod Stopping
 pub mod Visiting

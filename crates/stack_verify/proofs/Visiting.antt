@@ -1,88 +1,30 @@
 -- A walk that visits a position: the shape that the position has, its checks, and what the table knows then.
-use Rattle.std.proofs.Common.{◌≡◌, ◌⊎◌, inl, inr, ℕ, suc, ◌<◌, ◌≤◌, refl, sym, ◌∙◌, ap, subst, Bool, true, false, ◌&&◌, nat_le, Option, Some, None, Result, Ok, Err, List, [], ◌∷◌, ◌++◌, map, slice_get, slice_set, length, arith, append_assoc, leb-true}
+use Rattle.std.proofs.Common.{◌≡◌, ◌⊎◌, inl, inr, ℕ, suc, ◌<◌, ◌≤◌, refl, sym, ◌∙◌, ap, subst, Bool, true, false, ◌&&◌, nat_le, Option, Some, None, Result, Ok, Err, List, [], ◌∷◌, ◌++◌, slice_get, slice_set, length, arith, append_assoc, leb-true}
 use Rattle.hhbc_repo.specs.declared.body.Body.{Body}
 use Rattle.hhbc_repo.specs.declared.body.Position.{Position}
 use Rattle.hhbc_repo.specs.declared.code.Code.{Code}
 use Rattle.hhbc_repo.specs.Bodies.{code_of, code_at, asserts_of}
-use Rattle.hhbc_repo.specs.Codes.{goes_on, labels, throws, pops, iter_use, slots_read}
-use Rattle.hhbc_repo.specs.Edges.{Edge, To, target, edges, edges_of, next_edges, handler_edges, handler_of}
-use Rattle.hhbc_repo.specs.Shapes.{Shape, ShapeKind, Check, given, unled, edge_to, after, hands_on, behind, at_label, caught_shape, first_fault, edge_checks, all_edge_checks, iter_checks, iter_use_of, reaches, all_within, all_cells, agree, pops_of, slots_read_of, Underflow, WrongFlavour}
+use Rattle.hhbc_repo.specs.Codes.{pops, iter_use, slots_read}
+use Rattle.hhbc_repo.specs.Edges.{Edge, target, edges, edges_of, handler_of}
+use Rattle.flow_regions.specs.EdgeLists.{edges_from}
+use Rattle.hhbc_repo.specs.Shapes.{Shape, ShapeKind, Check, given, unled, edge_to, after, hands_on, first_fault, edge_checks, all_edge_checks, iter_checks, iter_use_of, reaches, all_within, all_cells, agree, pops_of, slots_read_of, Underflow, WrongFlavour}
 use Rattle.stack_verify.specs.declared.shape.Stop.{Stop}
 use Rattle.stack_verify.specs.declared.shape.Stop.TheVariants.{Fails, NoMemory}
 use Rattle.stack_verify.specs.Effects.{checks_on}
 use Rattle.stack_verify.specs.Kept.{StopsBy, kind_of}
-use Rattle.stack_verify.specs.Walk.{Table, known, and_then, led, led_each, led_next, led_handler, led_by, settled, settles, IsUnled, Ready, own_fault, StopsAs}
+use Rattle.stack_verify.specs.Walk.{Table, known, and_then, led, led_all, settled, settles, IsUnled, Ready, own_fault, StopsAs}
 use Rattle.stack_verify.proofs.LayoutRule.{unled_given, none_gives}
 use Rattle.stack_verify.proofs.Following.{IsOpen, Follows, led_ok, led_err, first_then, first_fails, set_here, set_elsewhere, set_length, same_or_not}
-use Rattle.stack_verify.proofs.Stopping.{then_same, then_assoc, then_last, front_stops, as_same}
-
--- the table once a position with this shape and code has led along these edges
-abbrev led_along : Option Code → Shape → List Edge → Table → Result Table ShapeKind
-led_along o s [] T = Ok T
-led_along o s (e ∷ es) T = and_then (led T (hands_on o s e) (target e)) (led_along o s es)
-
-along_append : (o : Option Code) (s : Shape) (xs ys : List Edge) (T : Table) → led_along o s (xs ++ ys) T ≡ and_then (led_along o s xs T) (led_along o s ys)
-along_append o s [] ys T = refl
-along_append o s (x ∷ xs) ys T =
-    then_same (led T (hands_on o s x) (target x)) (led_along o s (xs ++ ys)) (λ U. and_then (led_along o s xs U) (led_along o s ys)) (λ U. along_append o s xs ys U)
-    ∙ sym (then_assoc (led T (hands_on o s x) (target x)) (led_along o s xs) (led_along o s ys))
-
-along_next : (c : Code) (s : Shape) (p : ℕ) (on : Bool) (T : Table) → led_along (Some c) s (next_edges on p) T ≡ led_next on (behind c s) (suc p) T
-along_next c s p true T = then_last (led T (behind c s) (suc p))
-along_next c s p false T = refl
-
-along_labels : (c : Code) (s : Shape) (qs : List ℕ) (T : Table) → led_along (Some c) s (map (λ q. To q) qs) T ≡ led_each (at_label c s) qs T
-along_labels c s [] T = refl
-along_labels c s (q ∷ qs) T =
-    then_same (led T (at_label c s) q) (led_along (Some c) s (map (λ q. To q) qs)) (led_each (at_label c s) qs) (λ U. along_labels c s qs U)
-
-along_handler : (c : Code) (s : Shape) (may : Bool) (o : Option ℕ) (T : Table) → led_along (Some c) s (handler_edges may o) T ≡ led_handler may (caught_shape s) o T
-along_handler c s false o T = refl
-along_handler c s true None T = refl
-along_handler c s true (Some q) T = then_last (led T (caught_shape s) q)
-
-along_code : (b : Body) (p : ℕ) (c : Code) (s : Shape) (T : Table) → led_by c s p (handler_of b p) T ≡ led_along (Some c) s (edges_of (Some c) b p) T
-along_code b p c s T = sym (first ∙ second ∙ third)
-  where
-    A : List Edge
-    A = next_edges (goes_on c) p
-
-    B : List Edge
-    B = map (λ q. To q) (labels c)
-
-    D : List Edge
-    D = handler_edges (throws c) (handler_of b p)
-
-    first : led_along (Some c) s ((A ++ B) ++ D) T ≡ and_then (and_then (led_along (Some c) s A T) (led_along (Some c) s B)) (led_along (Some c) s D)
-    first =
-        along_append (Some c) s (A ++ B) D T
-        ∙ ap (λ w. and_then w (led_along (Some c) s D)) (along_append (Some c) s A B T)
-
-    second : and_then (and_then (led_along (Some c) s A T) (led_along (Some c) s B)) (led_along (Some c) s D)
-        ≡ and_then (led_next (goes_on c) (behind c s) (suc p) T) (λ U. and_then (led_along (Some c) s B U) (led_along (Some c) s D))
-    second =
-        then_assoc (led_along (Some c) s A T) (led_along (Some c) s B) (led_along (Some c) s D)
-        ∙ ap (λ w. and_then w (λ U. and_then (led_along (Some c) s B U) (led_along (Some c) s D))) (along_next c s p (goes_on c) T)
-
-    third : and_then (led_next (goes_on c) (behind c s) (suc p) T) (λ U. and_then (led_along (Some c) s B U) (led_along (Some c) s D))
-        ≡ led_by c s p (handler_of b p) T
-    third =
-        then_same (led_next (goes_on c) (behind c s) (suc p) T) (λ U. and_then (led_along (Some c) s B U) (led_along (Some c) s D))
-        (λ U. and_then (led_each (at_label c s) (labels c) U) (led_handler (throws c) (caught_shape s) (handler_of b p)))
-        (λ U.
-        ap (λ w. and_then w (led_along (Some c) s D)) (along_labels c s (labels c) U)
-        ∙ then_same (led_each (at_label c s) (labels c) U) (led_along (Some c) s D) (led_handler (throws c) (caught_shape s) (handler_of b p))
-        (λ V. along_handler c s (throws c) (handler_of b p) V))
+use Rattle.stack_verify.proofs.Stopping.{front_stops, as_same}
 
 code_here : (b : Body) (p : ℕ) (x : Position) → slice_get b.positions p ≡ Some x → code_at b p ≡ Some x.code
 code_here b p x e = ap code_of e
 
 along_edges : (b : Body) (p : ℕ) (x : Position) (s : Shape) (o : Option ℕ) (T : Table) → slice_get b.positions p ≡ Some x → o ≡ handler_of b p
-    → led_by x.code s p o T ≡ led_along (code_at b p) s (edges b p) T
+    → led_all (hands_on (Some x.code) s) (edges_from x.code p o) T ≡ led_all (hands_on (code_at b p) s) (edges b p) T
 along_edges b p x s o T e h =
-    ap (λ o. led_by x.code s p o T) h
-    ∙ along_code b p x.code s T
-    ∙ ap (λ (o : Option Code). led_along o s (edges_of o b p) T) (sym (code_here b p x e))
+    ap (λ o. led_all (hands_on (Some x.code) s) (edges_from x.code p o) T) h
+    ∙ ap (λ (o : Option Code). led_all (hands_on o s) (edges_of o b p) T) (sym (code_here b p x e))
 
 append_none : {A : Type 0} (xs : List A) → xs ++ [] ≡ xs
 append_none [] = refl
@@ -110,12 +52,12 @@ pub record Passed (b : Body) (n : ℕ) (es : List Edge) (V : Table) : Type 0 whe
   pub passes : first_fault (all_edge_checks b n (given b n) es) ≡ None
   pub ready : Ready b (suc n) V
 
-edges_ok : (b : Body) (n : ℕ) (done es : List Edge) (T V : Table) → Follows b n done es T → led_along (code_at b n) (given b n) es T ≡ Ok V → Passed b n es V
+edges_ok : (b : Body) (n : ℕ) (done es : List Edge) (T V : Table) → Follows b n done es T → led_all (after b n (given b n)) es T ≡ Ok V → Passed b n es V
 edges_ok b n done [] T V h f = let e : T ≡ V = cc in record { passes = refl; ready = subst (λ T. Ready b (suc n) T) e (follows_all b n done T h) }
 edges_ok b n done (e ∷ es) T V h f = by_case (led T (after b n (given b n) e) (target e)) refl f (λ U. edges_ok b n (done ++ e ∷ []) es U V)
   where
-    by_case : (w : Result Table ShapeKind) → led T (after b n (given b n) e) (target e) ≡ w → and_then w (led_along (code_at b n) (given b n) es) ≡ Ok V
-        → ((U : Table) → Follows b n (done ++ e ∷ []) es U → led_along (code_at b n) (given b n) es U ≡ Ok V → Passed b n es V)
+    by_case : (w : Result Table ShapeKind) → led T (after b n (given b n) e) (target e) ≡ w → and_then w (led_all (after b n (given b n)) es) ≡ Ok V
+        → ((U : Table) → Follows b n (done ++ e ∷ []) es U → led_all (after b n (given b n)) es U ≡ Ok V → Passed b n es V)
         → Passed b n (e ∷ es) V
     by_case (Err k) i f ih = absurd (cc)
     by_case (Ok U) i f ih =
@@ -126,13 +68,13 @@ edges_ok b n done (e ∷ es) T V h f = by_case (led T (after b n (given b n) e) 
           ready = w.ready;
         }
 
-edges_err : (b : Body) (n : ℕ) (done es : List Edge) (T : Table) (k : ShapeKind) → Follows b n done es T → led_along (code_at b n) (given b n) es T ≡ Err k
+edges_err : (b : Body) (n : ℕ) (done es : List Edge) (T : Table) (k : ShapeKind) → Follows b n done es T → led_all (after b n (given b n)) es T ≡ Err k
     → first_fault (all_edge_checks b n (given b n) es) ≡ Some k
 edges_err b n done [] T k h f = absurd (cc)
 edges_err b n done (e ∷ es) T k h f = by_case (led T (after b n (given b n) e) (target e)) refl f (λ U. edges_err b n (done ++ e ∷ []) es U k)
   where
-    by_case : (w : Result Table ShapeKind) → led T (after b n (given b n) e) (target e) ≡ w → and_then w (led_along (code_at b n) (given b n) es) ≡ Err k
-        → ((U : Table) → Follows b n (done ++ e ∷ []) es U → led_along (code_at b n) (given b n) es U ≡ Err k → first_fault (all_edge_checks b n (given b n) es) ≡ Some k)
+    by_case : (w : Result Table ShapeKind) → led T (after b n (given b n) e) (target e) ≡ w → and_then w (led_all (after b n (given b n)) es) ≡ Err k
+        → ((U : Table) → Follows b n (done ++ e ∷ []) es U → led_all (after b n (given b n)) es U ≡ Err k → first_fault (all_edge_checks b n (given b n) es) ≡ Some k)
         → first_fault (edge_checks b (after b n (given b n) e) (target e) ++ all_edge_checks b n (given b n) es) ≡ Some k
     by_case (Err j) i f ih =
         let g : j ≡ k = cc in
@@ -232,9 +174,9 @@ pub record Visited (b : Body) (p : ℕ) (V : Table) : Type 0 where
 pub visit_ok : (b : Body) (p : ℕ) (x : Position) (T U V : Table) (s : Shape) (o : Option ℕ) → Visit b p x T → s ≡ given b p → o ≡ handler_of b p
     → U ≡ settles b p (known (slice_get T p)) T
     → first_fault (checks_on x s.stack ++ iter_checks (iter_use x.code) s.live) ≡ None
-    → led_by x.code s p o U ≡ Ok V → Visited b p V
+    → led_all (hands_on (Some x.code) s) (edges_from x.code p o) U ≡ Ok V → Visited b p V
 visit_ok b p x T U V s o v g h u c f =
-    let f' = subst (λ (s : Shape). led_by x.code s p o U ≡ Ok V) g f in
+    let f' = subst (λ (s : Shape). led_all (hands_on (Some x.code) s) (edges_from x.code p o) U ≡ Ok V) g f in
     let c' = subst (λ (s : Shape). first_fault (checks_on x s.stack ++ iter_checks (iter_use x.code) s.live) ≡ None) g c in
     let n = subst (λ U. Follows b p [] (edges b p) U) (sym u) (follows_none b p x T v) in
     let w = edges_ok b p [] (edges b p) U V n (sym (along_edges b p x (given b p) o U v.here h) ∙ f') in
@@ -256,10 +198,10 @@ check_stops b p x s stop e g h =
 pub edge_stops : (b : Body) (p : ℕ) (x : Position) (T U : Table) (s : Shape) (o : Option ℕ) (stop : Stop) → Visit b p x T → s ≡ given b p → o ≡ handler_of b p
     → U ≡ settles b p (known (slice_get T p)) T
     → first_fault (checks_on x s.stack ++ iter_checks (iter_use x.code) s.live) ≡ None
-    → StopsBy (led_by x.code s p o U) stop → StopsAs (own_fault b p) stop
+    → StopsBy (led_all (hands_on (Some x.code) s) (edges_from x.code p o) U) stop → StopsAs (own_fault b p) stop
 edge_stops b p x T U s o NoMemory v g h u c f = tt
 edge_stops b p x T U s o (Fails k) v g h u c f =
-    let f' = subst (λ (s : Shape). led_by x.code s p o U ≡ Err (kind_of k)) g f in
+    let f' = subst (λ (s : Shape). led_all (hands_on (Some x.code) s) (edges_from x.code p o) U ≡ Err (kind_of k)) g f in
     let c' = subst (λ (s : Shape). first_fault (checks_on x s.stack ++ iter_checks (iter_use x.code) s.live) ≡ None) g c in
     let n = subst (λ U. Follows b p [] (edges b p) U) (sym u) (follows_none b p x T v) in
     own_is b p x v.here

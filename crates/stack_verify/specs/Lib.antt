@@ -1,4 +1,5 @@
 pub mod Effects
 pub mod Kept
+pub mod Left
 pub mod Verified
 pub mod Walk

@@ -1,11 +1,9 @@
 -- What a walk over the positions of a body knows of their shapes.
-use Rattle.std.specs.Prelude.{◌≡◌, ◌⊎◌, ◌==◌, ◌<◌, ◌≤◌, ℕ, suc, Bool, true, false, nat_le, nat_lt, List, [], ◌∷◌, ◌++◌, map, length, slice_get, slice_set, Option, Some, None, Result, Ok, Err}
+use Rattle.std.specs.Prelude.{◌≡◌, ◌⊎◌, ◌==◌, ◌<◌, ◌≤◌, ℕ, Bool, true, false, nat_le, nat_lt, List, [], ◌∷◌, ◌++◌, map, length, slice_get, slice_set, Option, Some, None, Result, Ok, Err}
 use Rattle.hhbc_repo.specs.declared.body.Body.{Body}
-use Rattle.hhbc_repo.specs.declared.code.Code.{Code}
 use Rattle.hhbc_repo.specs.Bodies.{code_at}
-use Rattle.hhbc_repo.specs.Codes.{goes_on, labels, throws}
-use Rattle.hhbc_repo.specs.Edges.{edges}
-use Rattle.hhbc_repo.specs.Shapes.{Shape, ShapeKind, Check, FallsOff, StackTooDeep, DepthMismatch, WrongFlavour, IteratorMismatch, behind, at_label, caught_shape, given, given_by, shapes, unled, deepest, agree, same_live, first_fault, FailsAt, fault_at, stack_checks, iter_checks, iter_use_of, all_edge_checks}
+use Rattle.hhbc_repo.specs.Edges.{Edge, target, edges}
+use Rattle.hhbc_repo.specs.Shapes.{Shape, ShapeKind, Check, FallsOff, StackTooDeep, DepthMismatch, WrongFlavour, IteratorMismatch, given, given_by, shapes, unled, deepest, agree, same_live, first_fault, FailsAt, fault_at, stack_checks, iter_checks, iter_use_of, all_edge_checks}
 use Rattle.stack_verify.specs.declared.shape.Shape.{Shape as KeptShape}
 use Rattle.stack_verify.specs.declared.shape.Stop.{Stop}
 use Rattle.stack_verify.specs.declared.shape.Stop.TheVariants.{Fails, NoMemory}
@@ -49,25 +47,10 @@ meets T s q (Some t) true true = unless (first_fault (mismatches s t)) T
 abbrev pub led : Table → Shape → ℕ → Result Table ShapeKind
 led T s q = meets T s q (known (slice_get T q)) (nat_lt q (length T)) (nat_le (length s.stack) 255)
 
--- the same, once a shape has come to each of these positions
-abbrev pub led_each : Shape → List ℕ → Table → Result Table ShapeKind
-led_each s [] T = Ok T
-led_each s (q ∷ qs) T = and_then (led T s q) (led_each s qs)
-
-abbrev pub led_next : Bool → Shape → ℕ → Table → Result Table ShapeKind
-led_next false s q T = Ok T
-led_next true s q T = led T s q
-
-abbrev pub led_handler : Bool → Shape → Option ℕ → Table → Result Table ShapeKind
-led_handler false s o T = Ok T
-led_handler true s None T = Ok T
-led_handler true s (Some q) T = led T s q
-
--- the same, once a code with this shape before it has led along its edges
-abbrev pub led_by : Code → Shape → ℕ → Option ℕ → Table → Result Table ShapeKind
-led_by c s p handler T =
-    and_then (led_next (goes_on c) (behind c s) (suc p) T)
-    (λ U. and_then (led_each (at_label c s) (labels c) U) (led_handler (throws c) (caught_shape s) handler))
+-- the same, once what is handed on along each of these edges has come to its target
+abbrev pub led_all : (Edge → Shape) → List Edge → Table → Result Table ShapeKind
+led_all f [] T = Ok T
+led_all f (e ∷ es) T = and_then (led T (f e) (target e)) (led_all f es)
 
 -- the shape of a position that is visited now, and the table that knows it
 abbrev pub settled : Body → ℕ → Option Shape → Shape

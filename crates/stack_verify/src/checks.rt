@@ -1,17 +1,18 @@
 //! The checks of a position's assertions and code.
 
-ghost use Rattle.std.specs.Prelude.{◌≡◌, length, option_map, IfOk, slice_get};
-ghost use Rattle.hhbc_repo.specs.Shapes.{all_cells, all_within, first_fault, iter_checks};
+ghost use Rattle.std.specs.Prelude.{◌≡◌, ◌≤◌, length, option_map, IfOk, slice_get};
+ghost use Rattle.hhbc_repo.specs.Shapes.{agree, all_cells, all_within, first_fault, iter_checks};
 ghost use Rattle.hhbc_repo.specs.Shapes as shapes;
-ghost use Rattle.stack_verify.specs.Effects.{checks_on, used};
+ghost use Rattle.hhbc_repo.specs.Effects.{taken, used};
+ghost use Rattle.stack_verify.specs.Effects.{checks_on, only_cells};
 ghost use Rattle.stack_verify.specs.Kept.{kind_of};
 
-use crate::effects::{IterUse, effect_of, pops, slots_read};
 use crate::known::agrees;
 use crate::shape::ShapeKind;
+use crate::slots::slots_read;
 use hack_values::NoMemory;
 use hhbc_ops::Flavour;
-use hhbc_repo::{Assert, Position};
+use hhbc_repo::{Assert, Effect, IterUse, Position, effect_of, pops};
 use std::alloc::Global;
 
 /// How many slots an assertion needs.
@@ -70,6 +71,27 @@ fn are_cells(slots: &[u8], stack: &[Flavour]) -> bool
     true
 }
 
+/// Whether all slots are cells.
+fn are_only_cells(stack: &[Flavour]) -> bool
+    ensures { result ≡ only_cells stack.now }
+{
+    for flavour in stack {
+        if *flavour != Flavour::C {
+            return false;
+        }
+    }
+    true
+}
+
+/// Whether the slots that an effect takes away are of the flavours of those on the stack.
+fn takes_agree(effect: Effect, stack: &[Flavour]) -> bool
+    requires { effect.cells ≤ length stack.now }
+    ensures { result ≡ agree (taken effect) stack.now }
+{
+    let cells = effect.cells as usize;
+    are_only_cells(&stack[..cells]) && agrees(effect.below, &stack[cells..])
+}
+
 /// The first check of the assertions and the slots of a position that fails.
 pub(crate) fn stack_fault(
     alloc: Global,
@@ -78,16 +100,15 @@ pub(crate) fn stack_fault(
 ) -> Result<Option<ShapeKind>, NoMemory>
     ensures { IfOk result (λ kind. option_map kind_of kind ≡ first_fault (checks_on position.now stack.now)) }
 {
-    let pops = pops(alloc, effect_of(&position.code))?;
     let slots = slots_read(alloc, &position.code)?;
     let depth = stack.len();
     if !reaches(position.asserts.as_slice(), depth)
-        || pops.len() > depth
+        || pops(&position.code) as usize > depth
         || !are_within(slots.as_slice(), depth)
     {
         return Ok(Some(ShapeKind::Underflow));
     }
-    if !agrees(pops.as_slice(), stack) || !are_cells(slots.as_slice(), stack) {
+    if !takes_agree(effect_of(&position.code), stack) || !are_cells(slots.as_slice(), stack) {
         return Ok(Some(ShapeKind::Flavour));
     }
     Ok(None)

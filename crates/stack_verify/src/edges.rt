@@ -1,69 +1,112 @@
 //! A walk follows the edges of a position: each brings a shape to its target.
 
-ghost use Rattle.std.specs.Prelude.{◌≡◌, ◌≤◌, ◌<◌, length, option_map, IfOk, MatchResult, Ok};
+ghost use Rattle.std.specs.Prelude.{◌≡◌, ◌≤◌, ◌<◌, ◌^◌, suc, length, option_map, slice_set, IfOk, MatchResult, Ok, Some};
+ghost use Rattle.flow_regions.specs.EdgeLists.{edge_of, edges_from, told};
 ghost use Rattle.hhbc_repo.specs.Codes as codes;
+ghost use Rattle.hhbc_repo.specs.Edges.{target as target_of};
+ghost use Rattle.hhbc_repo.specs.Effects.{used};
 ghost use Rattle.hhbc_repo.specs.Shapes as shapes;
-ghost use Rattle.hhbc_repo.specs.Shapes.{first_fault};
+ghost use Rattle.hhbc_repo.specs.Shapes.{first_fault, hands_on};
 ghost use Rattle.stack_verify.specs.Kept.{StopsBy, kind_of};
-ghost use Rattle.stack_verify.specs.Walk.{led, led_by, led_each, led_handler, led_next, mismatches};
+ghost use Rattle.stack_verify.specs.Left.{IsLeft, left_along};
+ghost use Rattle.stack_verify.specs.Walk.{led, led_all, mismatches};
 
-use crate::effects::{IterUse, effect_of, iter_use, labels, pops};
-use crate::known::{Known, agrees};
+use crate::known::{Known, agrees, copied, is_same_live};
 use crate::shape::{ShapeKind, Stop};
+use flow_regions::{Edge, edges_with};
 use hack_values::NoMemory;
-use hhbc_ops::{Flavour, has_next};
-use hhbc_repo::{Code, code_may_throw};
+use hhbc_ops::Flavour;
+use hhbc_repo::{Code, IterUse, effect_of, iter_use, pops};
 use std::alloc::Global;
 
+/// What a position leaves behind its code: the stack, and the iterators that are live at the next position and at labels.
+#[derive(Drop)]
+struct Left {
+    stack: Vec<Flavour>,
+    next: Vec<bool>,
+    label: Vec<bool>,
+}
+
 /// Where a shape that comes to a position differs from the one that it has.
-fn mismatch(shape: &Known, known: &Known) -> Option<ShapeKind>
-    ensures { option_map kind_of result ≡ first_fault (mismatches shape.now known.now) }
+fn mismatch(stack: &[Flavour], live: &[bool], known: &Known) -> Option<ShapeKind>
+    ensures { option_map kind_of result ≡ first_fault (mismatches (record { stack = stack.now; live = live.now }) known.now) }
 {
-    if shape.stack().len() != known.stack().len() {
+    if stack.len() != known.stack().len() {
         return Some(ShapeKind::DepthMismatch);
     }
-    if !agrees(shape.stack(), known.stack()) {
+    if !agrees(stack, known.stack()) {
         return Some(ShapeKind::Flavour);
     }
-    if !shape.is_as_live(known) {
+    if !is_same_live(live, known.live()) {
         return Some(ShapeKind::IteratorMismatch);
     }
     None
 }
 
-/// Brings a shape to a position, which has it from then on where it had none.
-fn lead(table: &mut Vec<Option<Known>>, shape: Known, target: usize) -> Result<(), Stop>
-    ensures { MatchResult result (λ _. led table.old.items shape target ≡ Ok table.new.items) (λ stop. StopsBy (led table.old.items shape target) stop) }
+/// Brings a shape to a position. Only where the position had none is the shape copied.
+fn lead(
+    alloc: Global,
+    table: &mut Vec<Option<Known>>,
+    stack: &[Flavour],
+    live: &[bool],
+    target: u32,
+) -> Result<(), Stop>
+    ensures { MatchResult result
+        (λ _. led table.old.items (record { stack = stack.now; live = live.now }) target ≡ Ok table.new.items)
+        (λ stop. StopsBy (led table.old.items (record { stack = stack.now; live = live.now }) target) stop) }
 {
+    let target = target as usize;
     if target >= table.len() {
         return Err(Stop::Fails(ShapeKind::FallsOff));
     }
-    if shape.stack().len() > 255 {
+    if stack.len() > 255 {
         return Err(Stop::Fails(ShapeKind::StackTooDeep));
     }
     match &table[target] {
-        Some(known) => match mismatch(&shape, known) {
+        Some(known) => match mismatch(stack, live, known) {
             Some(kind) => Err(Stop::Fails(kind)),
             None => Ok(()),
         },
         None => {
-            table[target] = Some(shape);
+            table[target] = Some(Known::new(alloc, stack, live)?);
             Ok(())
         }
     }
 }
 
-/// Brings a shape to each of these positions, in order.
-fn lead_each(
+/// Brings along an edge what a position with this shape leaves behind its code, or the exception that it raises.
+fn lead_along(
     alloc: Global,
     table: &mut Vec<Option<Known>>,
-    shape: &Known,
-    targets: &[u32],
+    left: &Left,
+    known: &Known,
+    edge: Edge,
 ) -> Result<(), Stop>
-    ensures { MatchResult result (λ _. led_each shape.now targets.now table.old.items ≡ Ok table.new.items) (λ stop. StopsBy (led_each shape.now targets.now table.old.items) stop) }
+    ensures { MatchResult result
+        (λ _. led table.old.items (left_along left.now known.now (edge_of edge)) (target_of (edge_of edge)) ≡ Ok table.new.items)
+        (λ stop. StopsBy (led table.old.items (left_along left.now known.now (edge_of edge)) (target_of (edge_of edge))) stop) }
 {
-    for target in targets {
-        match lead(table, shape.copy(alloc)?, *target as usize) {
+    match edge {
+        Edge::Next(target) => lead(alloc, table, &left.stack, &left.next, target),
+        Edge::To(target) => lead(alloc, table, &left.stack, &left.label, target),
+        Edge::Handler(target) => lead(alloc, table, &[Flavour::C], known.live(), target),
+    }
+}
+
+/// The same along each of these edges, in order.
+fn lead_all(
+    alloc: Global,
+    table: &mut Vec<Option<Known>>,
+    left: &Left,
+    known: &Known,
+    edges: &[Edge],
+) -> Result<(), Stop>
+    ensures { MatchResult result
+        (λ _. led_all (left_along left.now known.now) (told edges.now) table.old.items ≡ Ok table.new.items)
+        (λ stop. StopsBy (led_all (left_along left.now known.now) (told edges.now) table.old.items) stop) }
+{
+    for edge in edges {
+        match lead_along(alloc, table, left, known, *edge) {
             Ok(()) => {}
             Err(stop) => return Err(stop),
         }
@@ -76,111 +119,59 @@ fn stack_behind(alloc: Global, code: &Code, stack: &[Flavour]) -> Result<Vec<Fla
     requires { length (codes.pops code.now) ≤ length stack.now }
     ensures { IfOk result (λ all. all.items ≡ shapes.stack_left code.now stack.now) }
 {
-    let effect = effect_of(code);
-    let taken = pops(alloc, effect)?;
     let mut all = Vec::new(alloc);
-    all.extend_from_slice(effect.pushes)?;
-    all.extend_from_slice(&stack[taken.len()..])?;
+    all.extend_from_slice(effect_of(code).pushes)?;
+    all.extend_from_slice(&stack[pops(code) as usize..])?;
     Ok(all)
 }
 
-/// What the code hands on to the next position.
-fn next_shape(alloc: Global, code: &Code, known: &Known) -> Result<Known, NoMemory>
-    requires { length (codes.pops code.now) ≤ length known.now.stack }
-    ensures { IfOk result (λ next. next ≡ shapes.behind code.now known.now) }
+/// Makes an iterator live or not, where there is one of the number.
+fn set_live(flags: &mut Vec<bool>, iter: u8, live: bool)
+    ensures { flags.new.items ≡ slice_set flags.old.items iter live }
 {
-    let mut next = known.under(alloc, stack_behind(alloc, code, known.stack())?)?;
-    match iter_use(code) {
-        Some(IterUse::Begin(iter)) => next.set_live(iter, true),
-        Some(IterUse::Advance(iter) | IterUse::Free(iter)) => next.set_live(iter, false),
+    let iter = iter as usize;
+    if iter < flags.len() {
+        flags[iter] = live;
+    }
+}
+
+/// The iterators that are live at the next position.
+fn live_next(alloc: Global, use_of: Option<IterUse>, live: &[bool]) -> Result<Vec<bool>, NoMemory>
+    ensures { IfOk result (λ all. all.items ≡ shapes.live_next (option_map used use_of) live.now) }
+{
+    let mut all = copied(alloc, live)?;
+    match use_of {
+        Some(IterUse::Begin(iter)) => set_live(&mut all, iter, true),
+        Some(IterUse::Advance(iter) | IterUse::Free(iter)) => set_live(&mut all, iter, false),
         None => {}
     }
-    Ok(next)
+    Ok(all)
 }
 
-/// What the code hands on to the labels that it names.
-fn label_shape(alloc: Global, code: &Code, known: &Known) -> Result<Known, NoMemory>
-    requires { length (codes.pops code.now) ≤ length known.now.stack }
-    ensures { IfOk result (λ there. there ≡ shapes.at_label code.now known.now) }
+/// The iterators that are live at the labels.
+fn live_label(alloc: Global, use_of: Option<IterUse>, live: &[bool]) -> Result<Vec<bool>, NoMemory>
+    ensures { IfOk result (λ all. all.items ≡ shapes.live_to (option_map used use_of) live.now) }
 {
-    let mut there = known.under(alloc, stack_behind(alloc, code, known.stack())?)?;
-    match iter_use(code) {
-        Some(IterUse::Advance(iter)) => there.set_live(iter, true),
-        Some(IterUse::Begin(iter) | IterUse::Free(iter)) => there.set_live(iter, false),
+    let mut all = copied(alloc, live)?;
+    match use_of {
+        Some(IterUse::Advance(iter)) => set_live(&mut all, iter, true),
+        Some(IterUse::Begin(iter) | IterUse::Free(iter)) => set_live(&mut all, iter, false),
         None => {}
     }
-    Ok(there)
+    Ok(all)
 }
 
-/// Whether the code may go on to the next position.
-fn goes_on(code: &Code) -> bool
-    ensures { result ≡ codes.goes_on code.now }
-{
-    match code {
-        Code::Plain(instr) => has_next(instr.op),
-        Code::Member(_) => true,
-    }
-}
-
-/// Follows the edge to the next position, where there is one.
-fn follow_next(
-    alloc: Global,
-    table: &mut Vec<Option<Known>>,
-    code: &Code,
-    known: &Known,
-    next: usize,
-) -> Result<(), Stop>
+/// What a position with this code and shape leaves.
+fn left_by(alloc: Global, code: &Code, known: &Known) -> Result<Left, NoMemory>
     requires { length (codes.pops code.now) ≤ length known.now.stack }
-    ensures { MatchResult result
-        (λ _. led_next (codes.goes_on code.now) (shapes.behind code.now known.now) next table.old.items ≡ Ok table.new.items)
-        (λ stop. StopsBy (led_next (codes.goes_on code.now) (shapes.behind code.now known.now) next table.old.items) stop) }
+    ensures { IfOk result (λ left. IsLeft code.now known.now left) }
 {
-    if !goes_on(code) {
-        return Ok(());
-    }
-    let shape = next_shape(alloc, code, known)?;
-    lead(table, shape, next)
-}
-
-/// Follows the edges to the labels that the code names.
-fn follow_labels(
-    alloc: Global,
-    table: &mut Vec<Option<Known>>,
-    code: &Code,
-    known: &Known,
-) -> Result<(), Stop>
-    requires { length (codes.pops code.now) ≤ length known.now.stack }
-    ensures { MatchResult result
-        (λ _. led_each (shapes.at_label code.now known.now) (codes.labels code.now) table.old.items ≡ Ok table.new.items)
-        (λ stop. StopsBy (led_each (shapes.at_label code.now known.now) (codes.labels code.now) table.old.items) stop) }
-{
-    let targets = labels(alloc, code)?;
-    if targets.is_empty() {
-        return Ok(());
-    }
-    let shape = label_shape(alloc, code, known)?;
-    lead_each(alloc, table, &shape, targets.as_slice())
-}
-
-/// Follows the edge to the handler, where the code may throw and there is one.
-fn follow_handler(
-    alloc: Global,
-    table: &mut Vec<Option<Known>>,
-    code: &Code,
-    known: &Known,
-    handler: Option<u32>,
-) -> Result<(), Stop>
-    ensures { MatchResult result
-        (λ _. led_handler (codes.throws code.now) (shapes.caught_shape known.now) handler table.old.items ≡ Ok table.new.items)
-        (λ stop. StopsBy (led_handler (codes.throws code.now) (shapes.caught_shape known.now) handler table.old.items) stop) }
-{
-    match handler {
-        Some(target) if code_may_throw(code) => {
-            let shape = known.caught(alloc)?;
-            lead(table, shape, target as usize)
-        }
-        _ => Ok(()),
-    }
+    let use_of = iter_use(code);
+    Ok(Left {
+        stack: stack_behind(alloc, code, known.stack())?,
+        next: live_next(alloc, use_of, known.live())?,
+        label: live_label(alloc, use_of, known.live())?,
+    })
 }
 
 /// Follows the edges of a position, in order.
@@ -189,22 +180,16 @@ pub(crate) fn follow(
     table: &mut Vec<Option<Known>>,
     code: &Code,
     known: &Known,
-    position: usize,
+    position: u32,
     handler: Option<u32>,
 ) -> Result<(), Stop>
     requires slots { length (codes.pops code.now) ≤ length known.now.stack }
-    requires place { position < length table.old.items }
+    requires place { suc position < 2 ^ 32 }
     ensures { MatchResult result
-        (λ _. led_by code.now known.now position handler table.old.items ≡ Ok table.new.items)
-        (λ stop. StopsBy (led_by code.now known.now position handler table.old.items) stop) }
+        (λ _. led_all (hands_on (Some code.now) known.now) (edges_from code.now position handler) table.old.items ≡ Ok table.new.items)
+        (λ stop. StopsBy (led_all (hands_on (Some code.now) known.now) (edges_from code.now position handler) table.old.items) stop) }
 {
-    match follow_next(alloc, table, code, known, position + 1) {
-        Ok(()) => {}
-        Err(stop) => return Err(stop),
-    }
-    match follow_labels(alloc, table, code, known) {
-        Ok(()) => {}
-        Err(stop) => return Err(stop),
-    }
-    follow_handler(alloc, table, code, known, handler)
+    let left = left_by(alloc, code, known)?;
+    let edges = edges_with(alloc, code, position, handler)?;
+    lead_all(alloc, table, &left, known, edges.as_slice())
 }

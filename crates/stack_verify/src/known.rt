@@ -1,6 +1,6 @@
 //! Shapes while a walk works them out.
 
-ghost use Rattle.std.specs.Prelude.{◌≡◌, ◌≤◌, ◌&&◌, [], ◌∷◌, ◌++◌, false, replicate, length, slice_get, slice_set, IfOk, OnOk};
+ghost use Rattle.std.specs.Prelude.{◌≡◌, ◌≤◌, ◌&&◌, [], ◌∷◌, ◌++◌, false, replicate, length, IfOk};
 ghost use Rattle.hhbc_repo.specs.Shapes.{agree, caught_shape, same_live};
 ghost use Rattle.hhbc_ops.specs.declared.words.Flavour.TheVariants.{C};
 ghost use Rattle.stack_verify.specs.Kept.{bits_of, kept};
@@ -30,7 +30,7 @@ impl Model for Known {
 }
 
 /// A list with the same items.
-fn copied<T: Copy>(alloc: Global, items: &[T]) -> Result<Vec<T>, NoMemory>
+pub(crate) fn copied<T: Copy>(alloc: Global, items: &[T]) -> Result<Vec<T>, NoMemory>
     ensures { IfOk result (λ all. all.items ≡ items.now) }
 {
     let mut all = Vec::new(alloc);
@@ -87,13 +87,23 @@ pub(crate) fn agrees(these: &[Flavour], those: &[Flavour]) -> bool
 }
 
 /// Whether the same iterators are live.
-fn is_same_live(these: &[bool], those: &[bool]) -> bool
+pub(crate) fn is_same_live(these: &[bool], those: &[bool]) -> bool
     ensures { result ≡ same_live these.now those.now }
 {
     these == those
 }
 
 impl Known {
+    /// This stack, and these live iterators.
+    pub(crate) fn new(alloc: Global, stack: &[Flavour], live: &[bool]) -> Result<Known, NoMemory>
+        ensures { IfOk result (λ known. known ≡ record { stack = stack.now; live = live.now }) }
+    {
+        Ok(Known {
+            stack: copied(alloc, stack)?,
+            live: copied(alloc, live)?,
+        })
+    }
+
     /// A stack without slots, and so many iterators, none of them live.
     pub(crate) fn empty(alloc: Global, iters: u8) -> Result<Known, NoMemory>
         ensures { IfOk result (λ known. known ≡ record { stack = []; live = replicate iters false }) }
@@ -107,42 +117,14 @@ impl Known {
     pub(crate) fn copy(&self, alloc: Global) -> Result<Known, NoMemory>
         ensures { IfOk result (λ known. known ≡ self.now) }
     {
-        Ok(Known {
-            stack: copied(alloc, self.stack.as_slice())?,
-            live: copied(alloc, self.live.as_slice())?,
-        })
+        Known::new(alloc, self.stack.as_slice(), self.live.as_slice())
     }
 
     /// What a catch body begins with: the exception alone on the stack.
     pub(crate) fn caught(&self, alloc: Global) -> Result<Known, NoMemory>
         ensures { IfOk result (λ known. known ≡ caught_shape self.now) }
     {
-        let mut stack = Vec::new(alloc);
-        stack.push(Flavour::C)?;
-        Ok(Known {
-            stack,
-            live: copied(alloc, self.live.as_slice())?,
-        })
-    }
-
-    /// The same iterators under another stack.
-    pub(crate) fn under(&self, alloc: Global, stack: Vec<Flavour>) -> Result<Known, NoMemory>
-        ensures { IfOk result (λ known. known ≡ record self.now { stack = stack.items }) }
-    {
-        Ok(Known {
-            stack,
-            live: copied(alloc, self.live.as_slice())?,
-        })
-    }
-
-    /// Makes an iterator live or not, where there is one of the number.
-    pub(crate) fn set_live(&mut self, iter: u8, live: bool)
-        ensures { self.new ≡ record self.old { live = slice_set self.old.live iter live } }
-    {
-        let iter = iter as usize;
-        if iter < self.live.len() {
-            self.live[iter] = live;
-        }
+        Known::new(alloc, &[Flavour::C], self.live.as_slice())
     }
 
     /// The flavours of the stack, the topmost first.
@@ -157,13 +139,6 @@ impl Known {
         ensures { result.now ≡ self.now.live }
     {
         self.live.as_slice()
-    }
-
-    /// Whether the same iterators are live.
-    pub(crate) fn is_as_live(&self, other: &Known) -> bool
-        ensures { result ≡ same_live self.now.live other.now.live }
-    {
-        is_same_live(self.live.as_slice(), other.live.as_slice())
     }
 
     /// The shape as it is kept.

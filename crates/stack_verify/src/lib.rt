@@ -3,9 +3,9 @@
 
 mod checks;
 mod edges;
-mod effects;
 mod known;
 mod shape;
+mod slots;
 mod verified;
 mod walk;
 

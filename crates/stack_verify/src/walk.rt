@@ -1,6 +1,6 @@
 //! A walk over the positions of a body, which works out the shape of each.
 
-ghost use Rattle.std.specs.Prelude.{◌≡◌, ◌<◌, ◌≤◌, ◌+◌, ◌*◌, ◌++◌, [], suc, length, map, nat_le, not, replicate, slice_get, IfOk, MatchResult, Some, None as NoneYet};
+ghost use Rattle.std.specs.Prelude.{◌≡◌, ◌<◌, ◌≤◌, ◌+◌, ◌*◌, ◌^◌, ◌++◌, [], suc, length, map, nat_le, not, replicate, slice_get, IfOk, MatchResult, Some, None as NoneYet};
 ghost use Rattle.flow_regions.specs.EdgeLists.{all_handlers};
 ghost use Rattle.flow_regions.specs.Marks.{marked_by};
 ghost use Rattle.hhbc_repo.specs.Codes as codes;
@@ -12,12 +12,11 @@ ghost use Rattle.stack_verify.specs.Walk.{BodyTypes, Ready, StopsAs, StopsBody, 
 
 use crate::checks::{iter_fault, stack_fault};
 use crate::edges::follow;
-use crate::effects::iter_use;
 use crate::known::{Known, all_false};
 use crate::shape::{Shape, ShapeKind, Stop};
 use flow_regions::handlers;
 use hack_values::{NoMemory, Seq};
-use hhbc_repo::{Body, Position};
+use hhbc_repo::{Body, Position, iter_use};
 use std::alloc::Global;
 
 /// What a walk over a body knows.
@@ -171,20 +170,21 @@ fn visit(
     alloc: Global,
     body: &Body,
     table: &mut Vec<Option<Known>>,
-    position: usize,
+    position: u32,
     handler: Option<u32>,
     is_catch: bool,
 ) -> Result<Known, Stop>
     requires ready { Ready body.now position table.old.items }
     requires place { position < length body.now.positions }
+    requires fits { suc position < 2 ^ 32 }
     requires handler { handler ≡ handler_of body.now position }
     requires catch { is_catch ≡ shapes.is_catch body.now.regions position }
     ensures shape { MatchResult result (λ shape. shape ≡ given body.now position) (λ stop. StopsAs (own_fault body.now position) stop) }
     ensures passes { IfOk result (λ shape. own_fault body.now position ≡ NoneYet) }
     ensures ready { IfOk result (λ shape. Ready body.now (suc position) table.new.items) }
 {
-    let here = position_at(body, position);
-    let shape = settle(alloc, body, table, position, is_catch)?;
+    let here = position_at(body, position as usize);
+    let shape = settle(alloc, body, table, position as usize, is_catch)?;
     match check(alloc, here, &shape) {
         Ok(()) => {}
         Err(stop) => return Err(stop),
@@ -259,12 +259,13 @@ impl Walk {
         &mut self,
         alloc: Global,
         body: &Body,
-        position: usize,
+        position: u32,
         handler: Option<u32>,
         is_catch: bool,
     ) -> Result<(), Stop>
         requires walks { Walks body.now position self.old }
         requires place { position < length body.now.positions }
+        requires fits { suc position < 2 ^ 32 }
         requires handler { handler ≡ handler_of body.now position }
         requires catch { is_catch ≡ shapes.is_catch body.now.regions position }
         requires iters { body.now.iters ≤ 32 }
@@ -297,7 +298,7 @@ pub(crate) fn walk_over(alloc: Global, body: &Body) -> Result<Seq<Shape>, BodySt
         let place = position as usize;
         let handler = handler_at(&handlers, body, place);
         let is_catch = is_catch(catches.as_slice(), body, place);
-        match walk.step(alloc, body, place, handler, is_catch) {
+        match walk.step(alloc, body, position, handler, is_catch) {
             Ok(()) => {}
             Err(stop) => return Err(stop_at(position, stop)),
         }

@@ -1,29 +1,18 @@
-use Rattle.std.proofs.Common.{◌≡◌, ◌+◌, ℕ, suc, ◌∙◌, subst, arith, Ok}
-use Rattle.hhbc_repo.specs.Codes.{goes_on, throws}
-use Rattle.hhbc_repo.specs.Shapes.{behind, caught_shape}
-use Rattle.stack_verify.specs.Kept.{StopsBy}
-use Rattle.stack_verify.specs.Walk.{led_by, led_next, led_handler}
-use Rattle.stack_verify.proofs.Stopping.{then_ok, then_stops, stops_same}
+use Rattle.std.proofs.Common.{◌≡◌, ◌∙◌, ap, sym, Some}
+use Rattle.flow_regions.specs.EdgeLists.{told, edges_from}
+use Rattle.hhbc_repo.specs.Shapes.{hands_on}
+use Rattle.stack_verify.specs.Left.{left_along}
+use Rattle.stack_verify.specs.Walk.{led_all}
+use Rattle.stack_verify.proofs.Leaving.{left_is, led_alike}
 use Rattle.stack_verify.proofs.edges.follow.Goals as goal
-
-pub returns-in-Err : goal.returns-in-Err
-returns-in-Err c =
-    let n : c.args.position + 1 ≡ suc c.args.position = omega arith in
-    then_stops _ _ c.in-Err.stop
-    (subst (λ (n : ℕ). StopsBy (led_next (goes_on c.args.code.now) (behind c.args.code.now c.args.known.now) n c.args.table.now.items) c.in-Err.stop) n c.in-Err.ensures)
-
-pub returns-in-Err-follow_labels : goal.returns-in-Err-follow_labels
-returns-in-Err-follow_labels c =
-    let n : c.args.position + 1 ≡ suc c.args.position = omega arith in
-    let next = subst (λ (n : ℕ). led_next (goes_on c.args.code.now) (behind c.args.code.now c.args.known.now) n c.args.table.now.items ≡ Ok c.follow_next.new.table.items) n c.in-Ok.ensures in
-    stops_same _ _ c.in-Err-follow_labels.stop (then_ok _ _ _ next) (then_stops _ _ c.in-Err-follow_labels.stop c.in-Err-follow_labels.ensures)
 
 pub returns : goal.returns
 returns c =
-    let n : c.args.position + 1 ≡ suc c.args.position = omega arith in
-    let next = subst (λ (n : ℕ). led_next (goes_on c.args.code.now) (behind c.args.code.now c.args.known.now) n c.args.table.now.items ≡ Ok c.follow_next.new.table.items) n c.in-Ok.ensures in
     let code = c.args.code.now in
     let known = c.args.known.now in
-    let e : led_by code known c.args.position c.args.handler c.args.table.now.items ≡ led_handler (throws code) (caught_shape known) c.args.handler c.follow_labels.new.table.items =
-    then_ok _ _ _ next ∙ then_ok _ _ _ c.in-Ok-follow_labels.ensures in
-    rw e c.follow_handler.ensures
+    let left = c.in_ok-left.left in
+    let T = c.args.table.now.items in
+    let e : led_all (hands_on (Some code) known) (edges_from code c.args.position c.args.handler) T ≡ led_all (left_along left known) (told c.as_slice.result.now) T =
+    led_alike (hands_on (Some code) known) (left_along left known) (edges_from code c.args.position c.args.handler) T (left_is code known left c.in_ok-left.ensures)
+    ∙ ap (λ es. led_all (left_along left known) es T) (sym (ap told c.as_slice.ensures ∙ c.in_ok-edges.ensures)) in
+    rw e c.lead_all.ensures
