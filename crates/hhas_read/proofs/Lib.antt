@@ -82,3 +82,4 @@ pub mod Endings
 pub mod FirstFaults
 pub mod FittingTexts
 pub mod ReadBack
+pub mod FewParts

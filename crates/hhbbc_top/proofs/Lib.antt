@@ -7,3 +7,4 @@ pub mod Machines
 pub mod CommandWords
 pub mod Counting
 pub mod BodyNames
+pub mod ShortLists

@@ -14,7 +14,7 @@ ghost use Rattle.hhbbc_top.specs.Forms.{code_of, bare_of, plain, bare_repo_of, s
 use crate::form::{Line, Main, Step};
 use hack_values::{Cell, NoMemory, Seq, Text};
 use hhbc_ops::Op;
-use hhbc_repo::{Assert, Body, Code, Imm, Instr, Position, Repo};
+use hhbc_repo::{Assert, Body, Code, Imm, Instr, Position, Repo, linked_bodies_keep_to_ranges};
 use std::alloc::Global;
 use type_lattice::{ClassTree, HType, IntPart, ObjPart, StrPart, le, of_literal};
 
@@ -363,6 +363,7 @@ pub fn annotated(alloc: Global, main: Main) -> Result<Repo, NoMemory>
     requires { HasSpelling (along.annotated_by (bare_repo_of main)) }
     ensures { IfOk result (λ repo. repo ≡ along.annotated_by (bare_repo_of main)) }
 {
+    linked_bodies_keep_to_ranges();
     let body = stated_main(alloc, main)?;
     let mut functions = Seq::new(alloc);
     functions.push(body)?;

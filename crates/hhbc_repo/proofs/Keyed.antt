@@ -1,5 +1,5 @@
 -- Keys as lists of bytes.
-use Rattle.std.proofs.Common.{◌≡◌, ℕ, List, [], ◌∷◌, ◌++◌, refl, ap, position, arith, nat_eq}
+use Rattle.std.proofs.Common.{◌≡◌, ℕ, suc, List, [], ◌∷◌, ◌++◌, length, refl, ap, position, arith, nat_eq}
 use Rattle.std.specs.declared.vec.Vec.{Vec}
 use Rattle.std.specs.List.{list_any}
 use Rattle.std.specs.Str.{bytes_eq}
@@ -27,3 +27,7 @@ module _ {A : Type 0} (q : List ℕ) where
 pub bytes_of-append : {A : Type 0} (vs : List (Vec ℕ A)) (v : Vec ℕ A) → bytes_of (vs ++ v ∷ []) ≡ bytes_of vs ++ v.items ∷ []
 bytes_of-append [] v = refl
 bytes_of-append (u ∷ vs) v = ap (λ l. u.items ∷ l) (bytes_of-append vs v)
+
+pub bytes_count : {A : Type 0} (vs : List (Vec ℕ A)) → length (bytes_of vs) ≡ length vs
+bytes_count [] = refl
+bytes_count (v ∷ vs) = ap suc (bytes_count vs)

@@ -9,6 +9,8 @@ pub mod Inherited
 pub mod Keyed
 pub mod MethodsFound
 pub mod Numbered
+pub mod Borne
+pub mod Placed
 pub mod OneFunction
 pub mod ChainLaws
 pub mod Different
@@ -18,6 +20,7 @@ pub mod LabelsFound
 mod NumbersPut
 pub mod NoFaults
 pub mod DeclaredTree
+pub mod LinkedLengths
 pub mod SoundLinks
 pub mod NamesMet
 pub mod WithinLimits
@@ -27,6 +30,7 @@ pub mod BodyCounts
 pub mod KeptOnce
 pub mod SpelledTypes
 pub mod SpelledFits
+pub mod SpelledLengths
 mod CanonicalExamples
 pub mod BodiesPass
 mod FewIterators
@@ -78,4 +82,8 @@ pub mod BareWholes
 pub mod BareFaults
 pub mod BareFits
 pub mod ClaimsKept
+pub mod LinkedClaims
+pub mod BareKept
+pub mod ChangedParts
+pub mod ClaimsSet
 pub mod Relabelled

@@ -100,7 +100,7 @@ module _ (name : Name) where
       )
 
 -- what some class of a list gives first
-given : (f : ℕ → Option ℕ) (cs : List ℕ) (n : ℕ) → first_some f cs ≡ Some n → (d : ℕ) × (has d cs ≡ true) × (f d ≡ Some n)
+pub given : (f : ℕ → Option ℕ) (cs : List ℕ) (n : ℕ) → first_some f cs ≡ Some n → (d : ℕ) × (has d cs ≡ true) × (f d ≡ Some n)
 given f [] n h = absurd (cc)
 given f (c ∷ cs) n h = go (f c) refl h (given f cs n)
   where

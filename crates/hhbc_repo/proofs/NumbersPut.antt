@@ -39,7 +39,7 @@ put_absent t name n e = put_when false t name n (absent_names t.known name e)
 pub place_step : (n : Name) (ns : List Name) (q : Name) → place_in (n ∷ ns) q ≡ cond (is_name q n) (Some 0) (option_map (λ k. suc k) (place_in ns q))
 place_step n ns q = grind arith
 
-abbrev place_else : Bool → ℕ → Option ℕ → Option ℕ
+abbrev pub place_else : Bool → ℕ → Option ℕ → Option ℕ
 place_else b n found = or_else found (cond b (Some n) None)
 
 pub place_append : (all : List Name) (name q : Name) → place_in (all ++ name ∷ []) q ≡ place_else (is_name q name) (length all) (place_in all q)

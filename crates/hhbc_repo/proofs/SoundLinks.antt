@@ -1,5 +1,5 @@
 -- What parts link to is sound where no check fails.
-use Rattle.std.proofs.Common.{◌≡◌, ◌≤◌, ◌<◌, ◌^◌, ℕ, suc, true, List, [], ◌∷◌, ◌++◌, length, map, flat_map, refl, sym, ap, ap₂, ◌∙◌, subst, arith, codes}
+use Rattle.std.proofs.Common.{◌≡◌, ◌≤◌, ◌<◌, ◌+◌, ◌^◌, ℕ, suc, true, List, [], ◌∷◌, ◌++◌, length, map, flat_map, refl, sym, ap, ap₂, ◌∙◌, subst, arith, codes}
 use Rattle.std.specs.List.{list_all}
 use Rattle.std.proofs.lemmas.Bool.{and_from, le-leb}
 use Rattle.std.proofs.lemmas.List.{append-nil, length-append, length-map}
@@ -21,8 +21,10 @@ use Rattle.hhbc_repo.specs.LinkFaults as checks
 use Rattle.hhbc_repo.specs.LookUps.{Sound, function_names, method_names, property_names, all_properties, methods_in, total}
 use Rattle.hhbc_repo.specs.Resolved.{resolved, resolved_class, resolved_body, resolved_property}
 use Rattle.hhbc_repo.proofs.DeclaredTree.{class_names_length, parents_forest}
+use Rattle.hhbc_repo.specs.Lengths.{parts_fewer}
 use Rattle.hhbc_repo.specs.Ranges.{few_iterators}
 use Rattle.hhbc_repo.proofs.BodiesPass.{all_pass, any_body, any_method}
+use Rattle.hhbc_repo.proofs.LinkedLengths.{lists_kept}
 use Rattle.hhbc_repo.proofs.WithinLimits.{limits_hold}
 use Rattle.hhbc_repo.proofs.NoFaults.{empty_left, empty_right, fits_within, distinct_fewer, differ, functions_differ, properties_differ, classes_differ, faultless, passed}
 
@@ -117,8 +119,8 @@ iterators_fit w b owner h =
     let p : Place = record { whole = w; body = b; owner = owner } in
     le-leb b.iters 32 (limits_hold p (faultless p h).limits).iters
 
-pub sound_links : (w : Whole) → total (properties w) < 2 ^ 32 → faults w ≡ [] → Sound (resolved w)
-sound_links w few h =
+pub sound_links : (w : Whole) → total (properties w) + 1 < 2 ^ 32 → parts_fewer (2 ^ 32) w ≡ true → faults w ≡ [] → Sound (resolved w)
+sound_links w few lists h =
     let p = passed w h in
     record {
       functions = ap distinct (body_names w w.functions) ∙ functions_differ [] w.functions p.functions;
@@ -128,6 +130,7 @@ sound_links w few h =
       forest = subst Forest (sym (linked_tree w)) (parents_forest w p.classes);
       body_count = let l = linked_bodies w in let b = few_bodies w p.counts in omega (arith, l, b);
       class_count = let e = ap length (linked_class_names w) in let l = class_names_length w in let b = few_classes w p.counts in omega (arith, e, l, b);
-      property_count = subst (λ (t : List (List Name)). total t < 2 ^ 32) (sym (linked_properties w)) few;
+      property_count = subst (λ (t : List (List Name)). total t + 1 < 2 ^ 32) (sym (linked_properties w)) few;
+      lists = lists_kept (2 ^ 32) w (omega arith) lists h;
       iterators = all_pass w (λ (b : BodyParts). true) few_iterators (λ b owner f h. iterators_fit w b owner h) (any_body w.functions) (any_method w.classes) p.bodies;
     }

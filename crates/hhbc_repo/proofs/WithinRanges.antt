@@ -196,7 +196,7 @@ module _ (w : Whole) (owner : Name) where
       and_from (type_in_range u) (list_all (λ c. nat_lt c class_count) (classes_of u)) (range_same f t.t ∙ a.0)
       (ap (list_all (λ c. nat_lt c class_count)) (renumbered f t.t ∙ ap (map f) are) ∙ listed_within [] t.classes e)
 
-  stated_links : (o : Option TypeParts) → where_there type_fits o ≡ true → stated_faults w owner o ≡ [] → where_there (is_proper class_count) (option_map (resolved_type w) o) ≡ true
+  pub stated_links : (o : Option TypeParts) → where_there type_fits o ≡ true → stated_faults w owner o ≡ [] → where_there (is_proper class_count) (option_map (resolved_type w) o) ≡ true
   stated_links None h e = refl
   stated_links (Some t) h e = type_links t h e
 
@@ -462,7 +462,7 @@ body_links w b owner h e =
     (stated_links w owner b.stated f.stated g.stated)
     (items_link w b owner b.items f.items g.positions)))))
 
-methods_fit : (cs : List ClassParts) → list_all class_fits cs ≡ true → list_all (λ (c : ClassParts). list_all body_fits c.methods) cs ≡ true
+pub methods_fit : (cs : List ClassParts) → list_all class_fits cs ≡ true → list_all (λ (c : ClassParts). list_all body_fits c.methods) cs ≡ true
 methods_fit [] h = refl
 methods_fit (c ∷ cs) h =
     let p = and_parts (class_fits c) (list_all class_fits cs) h in

@@ -1,5 +1,5 @@
 -- What names and numbers find in a repository.
-use Rattle.std.specs.Prelude.{◌≡◌, ◌<◌, ◌^◌, ℕ, suc, ◌+◌, true, List, [], ◌∷◌, ◌++◌, Option, Some, None, map, flat_map, length, slice_get, codes}
+use Rattle.std.specs.Prelude.{◌≡◌, ◌<◌, ◌^◌, ℕ, suc, ◌+◌, true, List, [], ◌∷◌, ◌++◌, Option, Some, None, map, flat_map, length, replicate, slice_get, codes}
 use Rattle.std.specs.List.{list_all}
 use Rattle.type_lattice.specs.Classes.{Tree, Forest, below, chain}
 use Rattle.hhbc_repo.specs.declared.body.Body.{Body}
@@ -7,6 +7,7 @@ use Rattle.hhbc_repo.specs.declared.repo.Class.{Class}
 use Rattle.hhbc_repo.specs.declared.repo.Property.{Property}
 use Rattle.hhbc_repo.specs.Linked.{Linked}
 use Rattle.hhbc_repo.specs.LinkFaults.{Name, place_in, at_class, first_class}
+use Rattle.hhbc_repo.specs.Lengths.{lists_fewer}
 use Rattle.hhbc_repo.specs.Names.{distinct}
 use Rattle.hhbc_repo.specs.Ranges.{few_iterators}
 use Rattle.hhbc_repo.specs.Bodies.{class_names, tree_of, bodies, body_at, own_from}
@@ -76,6 +77,14 @@ owners_from n (c ∷ cs) = map (λ (b : Body). Some n) c.methods ++ owners_from 
 abbrev pub owners : Linked → List (Option ℕ)
 owners r = map (λ (b : Body). None) r.functions ++ owners_from first_class r.classes
 
+-- the class of each property, by class
+abbrev pub property_owners_from : ℕ → List (List Name) → List ℕ
+property_owners_from n [] = []
+property_owners_from n (names ∷ more) = replicate (length names) n ++ property_owners_from (suc n) more
+
+abbrev pub property_owners : Linked → List ℕ
+property_owners r = property_owners_from 0 (all_properties r)
+
 -- the number is that of a body of the name, a method of the class itself or of one that it descends from
 pub record IsMethodOf (r : Linked) (c : ℕ) (name : Name) (n : ℕ) : Type 0 where
   pub owner : ℕ
@@ -89,8 +98,8 @@ abbrev pub total : List (List Name) → ℕ
 total [] = 0
 total (ns ∷ more) = length ns + total more
 
--- what linking sees to: names differ, classes descend from classes and none from itself, all that is numbered has a number, and
--- no body has more than 32 iterators
+-- what linking sees to: names differ, classes descend from classes and none from itself, all that is numbered has a number, no
+-- list has 2^32 elements, and no body has more than 32 iterators
 pub record Sound (r : Linked) : Type 0 where
   pub functions : distinct (function_names r.functions) ≡ true
   pub names : distinct (class_names r) ≡ true
@@ -99,5 +108,6 @@ pub record Sound (r : Linked) : Type 0 where
   pub forest : Forest (tree_of r)
   pub body_count : length (bodies r) < 2 ^ 32
   pub class_count : length (class_names r) < 2 ^ 32
-  pub property_count : total (all_properties r) < 2 ^ 32
+  pub property_count : total (all_properties r) + 1 < 2 ^ 32
+  pub lists : lists_fewer (2 ^ 32) r ≡ true
   pub iterators : list_all few_iterators (bodies r) ≡ true

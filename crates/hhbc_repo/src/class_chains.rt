@@ -5,8 +5,7 @@ ghost use Rattle.type_lattice.specs.Classes.{parent_of, chain, chain_on, chain_w
 ghost use Rattle.hhbc_repo.specs.LinkFaults.{above, different};
 ghost use Rattle.hhbc_repo.specs.declared.class_chains.ChainFault.TheVariants as faults;
 
-/// The most classes that a class and its ancestors may be.
-const MOST_CLASSES: usize = 64;
+use crate::limits::MOST_ON_CHAIN;
 
 /// What is wrong with the ancestors of a class.
 #[derive(Clone, Copy, PartialEq, Eq)]
@@ -59,11 +58,11 @@ fn is_met_again(parents: &[Option<u32>], class: u32, steps: usize) -> bool
 fn is_shallow(parents: &[Option<u32>], class: u32) -> bool
     ensures { result ≡ nat_le (different (chain parents.now class)) 64 }
 {
-    if parents.len() < MOST_CLASSES {
+    if parents.len() < MOST_ON_CHAIN {
         return true;
     }
     let mut at = class;
-    for steps in 0..MOST_CLASSES {
+    for steps in 0..MOST_ON_CHAIN {
         match parent_in(parents, at) {
             None => return true,
             Some(parent) if is_met(parents, class, steps, parent) => return true,
@@ -82,7 +81,7 @@ pub(crate) fn chain_fault(parents: &[Option<u32>], class: u32) -> Option<ChainFa
 {
     if is_shallow(parents, class) {
         // at most so many are there, so the class is met again within as many steps, or never
-        let steps = parents.len().min(MOST_CLASSES);
+        let steps = parents.len().min(MOST_ON_CHAIN);
         if is_met_again(parents, class, steps) {
             Some(ChainFault::Cycle)
         } else {

@@ -12,6 +12,7 @@ ghost use Rattle.hhbc_repo.specs.Resolved.{regions_from, resolved_body, resolved
 use crate::body::{Body, Position};
 use crate::distinct_names::{check_labels, check_locals};
 use crate::known::Known;
+use crate::limits::{MOST_ITERATORS, MOST_LOCALS, MOST_NESTING, MOST_POSITIONS};
 use crate::link_counts::check_limit;
 use crate::link_fault::LinkError;
 use crate::nesting::{count_positions, nesting};
@@ -33,22 +34,40 @@ fn check_limits(alloc: Global, body: &BodyParts, owner: &[u8]) -> Result<(), Lin
     ensures { (w : Whole) → Checks (limit_faults (record { whole = w; body = body.now; owner = owner.now })) tt result }
 {
     let items = body.items.as_slice();
-    if let Err(error) = check_limit(alloc, owner, 255, count_locals(body) as u64, b"locals") {
-        return Err(error);
-    }
-    if let Err(error) = check_limit(alloc, owner, 32, body.iters as u64, b"iterators") {
+    if let Err(error) = check_limit(
+        alloc,
+        owner,
+        MOST_LOCALS,
+        count_locals(body) as u64,
+        b"locals",
+    ) {
         return Err(error);
     }
     if let Err(error) = check_limit(
         alloc,
         owner,
-        65535,
+        MOST_ITERATORS,
+        body.iters as u64,
+        b"iterators",
+    ) {
+        return Err(error);
+    }
+    if let Err(error) = check_limit(
+        alloc,
+        owner,
+        MOST_POSITIONS,
         count_positions(items) as u64,
         b"positions",
     ) {
         return Err(error);
     }
-    check_limit(alloc, owner, 64, nesting(items) as u64, b"nesting")
+    check_limit(
+        alloc,
+        owner,
+        MOST_NESTING,
+        nesting(items) as u64,
+        b"nesting",
+    )
 }
 
 /// The body, of which what names stand for is known.
@@ -88,11 +107,13 @@ fn linked_positions(
     known: &Known,
     body: &BodyParts,
     owner: &[u8],
+    locals: &[Text],
 ) -> Result<Seq<Position>, LinkError>
-    requires { InLimits body.now }
+    requires limits { InLimits body.now }
+    requires locals { locals.now ≡ faults.locals_of body.now }
     ensures { Checks (flat_map (position_faults (record { whole = known.now; body = body.now; owner = owner.now })) (positions_of body.now)) (flat_map (resolved_item known.now body.now) body.now.items) result }
 {
-    match Scope::new(alloc, known, body, owner) {
+    match Scope::new(alloc, known, body, owner, locals) {
         Ok(scope) => scope.positions(alloc),
         Err(_want) => Err(LinkError::NoMemory),
     }
@@ -110,7 +131,7 @@ fn linked_inside(
     ensures { Checks (stated_faults known.now owner.now body.now.stated ++ flat_map (position_faults (record { whole = known.now; body = body.now; owner = owner.now })) (positions_of body.now)) (resolved_body known.now body.now) result }
 {
     match known.listed().linked_stated(alloc, owner, &body.stated) {
-        Ok(stated) => match linked_positions(alloc, known, body, owner) {
+        Ok(stated) => match linked_positions(alloc, known, body, owner, locals.as_slice()) {
             Ok(positions) => Ok(body_with(alloc, body, locals, stated, positions)?),
             Err(error) => Err(error),
         },

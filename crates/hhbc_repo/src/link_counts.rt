@@ -4,6 +4,7 @@ ghost use Rattle.std.specs.Prelude.{◌≡◌, IfSome, length};
 ghost use Rattle.hhbc_repo.specs.Checks.{Checks};
 ghost use Rattle.hhbc_repo.specs.LinkFaults.{count_faults, places, within};
 
+use crate::limits::{MOST_BODIES, MOST_CLASSES};
 use crate::link_fault::{LinkError, LinkKind};
 use crate::parts::{BodyParts, ClassParts};
 use crate::telling::counted;
@@ -49,8 +50,8 @@ pub(crate) fn check_counts(
     ensures { Checks (count_faults (record { functions = functions.now; classes = classes.now })) tt result }
 {
     match count_bodies(functions, classes) {
-        Some(count) => match check_limit(alloc, b"", 65535, count, b"functions") {
-            Ok(()) => check_limit(alloc, b"", 16384, classes.len() as u64, b"classes"),
+        Some(count) => match check_limit(alloc, b"", MOST_BODIES, count, b"functions") {
+            Ok(()) => check_limit(alloc, b"", MOST_CLASSES, classes.len() as u64, b"classes"),
             Err(error) => Err(error),
         },
         None => Err(LinkError::NoMemory),

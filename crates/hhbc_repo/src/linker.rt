@@ -1,8 +1,9 @@
 //! A repository is linked.
 
-ghost use Rattle.std.specs.Prelude.{◌≡◌, ◌<◌, ◌+◌, ◌^◌, length, map};
+ghost use Rattle.std.specs.Prelude.{◌≡◌, ◌<◌, ◌+◌, ◌^◌, length, map, true};
 ghost use Rattle.std.specs.List.{flat_map};
 ghost use Rattle.hhbc_repo.specs.Checks.{Checks};
+ghost use Rattle.hhbc_repo.specs.Lengths.{parts_fewer};
 ghost use Rattle.hhbc_repo.specs.LinkFaults.{Whole, body_faults, faults, properties};
 ghost use Rattle.hhbc_repo.specs.LinkResults.{Links};
 ghost use Rattle.hhbc_repo.specs.LookUps.{total};
@@ -100,7 +101,8 @@ fn linked_parts(
 /// Links names to what they name. Locals and labels become numbers within their body, and classes numbers
 /// within the repository, the built-in ones first.
 pub fn link(alloc: Global, parts: Parts) -> Result<Repo, LinkError>
-    requires properties { total (properties (record { functions = parts.functions; classes = parts.classes })) < 2 ^ 32 }
+    requires properties { total (properties (record { functions = parts.functions; classes = parts.classes })) + 1 < 2 ^ 32 }
+    requires lists { parts_fewer (2 ^ 32) (record { functions = parts.functions; classes = parts.classes }) ≡ true }
     ensures { Links (record { functions = parts.functions; classes = parts.classes }) result }
 {
     match linked_parts(alloc, parts.functions, parts.classes) {

@@ -10,7 +10,7 @@ use crate::repo::Class;
 
 /// The parent of a class. The built-in classes descend from Exception, which is the first of them.
 #[tactic(auto, using(crate::proofs::Inherited::built_in_parent, crate::proofs::Inherited::declared_parent))]
-fn parent_in(classes: &[Class], class: u32) -> Option<u32>
+pub(crate) fn parent_in(classes: &[Class], class: u32) -> Option<u32>
     ensures { result ≡ parent_of (built_in_tree ++ parents_of_classes classes.now) class }
 {
     match class {

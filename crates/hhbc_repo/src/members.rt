@@ -1,7 +1,9 @@
 //! What the classes declare, by name, with its numbers.
 
-ghost use Rattle.std.specs.Prelude.{◌≡◌, ◌<◌, ◌^◌, ◌+◌, [], ◌∷◌, ◌++◌, OnOk, IfOk, length, map, true, codes};
+ghost use Rattle.std.specs.Prelude.{◌≡◌, ◌<◌, ◌^◌, ◌+◌, [], ◌∷◌, ◌++◌, OnOk, IfOk, Some, length, map, slice_get, true, codes};
 ghost use Rattle.std.specs.List.{list_all};
+ghost use Rattle.hhbc_repo.specs.LinkFaults.{at_class, place_in};
+ghost use Rattle.hhbc_repo.specs.Members.{Counted, names_of, starts};
 ghost use Rattle.hhbc_repo.specs.LookUps.{own_number, total, method_names, property_names, no_names};
 ghost use Rattle.hhbc_repo.specs.Names.{distinct};
 
@@ -13,9 +15,9 @@ use std::marker::Model;
 
 /// The names that a class declares, and the number of the first.
 #[derive(Drop)]
-struct Row {
-    names: NameTable,
-    first: u32,
+pub(crate) struct Row {
+    pub(crate) names: NameTable,
+    pub(crate) first: u32,
 }
 
 /// The names that each class declares. All are numbered, those of a class in their order and behind
@@ -65,6 +67,48 @@ impl Members {
         })?;
         self.next += count as u32;
         Ok(())
+    }
+
+    /// How many there are of all classes.
+    pub(crate) fn count(&self) -> u32
+        ensures { result ≡ total self.now.names }
+    {
+        self.next - self.start
+    }
+
+    /// How many the class itself declares.
+    pub(crate) fn count_of(&self, class: u32) -> u32
+        ensures { result ≡ length (at_class (slice_get self.now.names class)) }
+    {
+        match self.rows.as_slice().get(class as usize) {
+            Some(row) => row.names.len() as u32,
+            None => 0,
+        }
+    }
+
+    /// The number of the first that the class itself declares, or would.
+    pub(crate) fn first_of(&self, class: u32) -> u32
+        requires { class < length self.now.names }
+        ensures { slice_get (starts self.now.first self.now.names) class ≡ Some result }
+    {
+        self.rows.as_slice()[class as usize].first
+    }
+
+    /// The place of a name among those that the class itself declares.
+    pub(crate) fn place(&self, class: u32, name: &[u8]) -> Option<u32>
+        ensures { result ≡ place_in (at_class (slice_get self.now.names class)) name.now }
+    {
+        let row = self.rows.as_slice().get(class as usize)?;
+        let place = row.names.find(name)?;
+        Some(place as u32)
+    }
+
+    /// What each class declares.
+    pub(crate) fn rows(&self) -> &[Row]
+        ensures rows { names_of result.now ≡ self.now.names }
+        ensures counted { Counted self.now.first (self.now.first + total self.now.names) result.now }
+    {
+        self.rows.as_slice()
     }
 
     /// The number of what the class itself declares by that name.

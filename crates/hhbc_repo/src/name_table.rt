@@ -1,8 +1,8 @@
 //! Tables of names.
 
-ghost use Rattle.std.specs.Prelude.{◌≡◌, [], ◌∷◌, ◌++◌, OnOk, IfOk, map, true, false};
+ghost use Rattle.std.specs.Prelude.{◌≡◌, [], ◌∷◌, ◌++◌, OnOk, IfOk, length, map, true, false};
 ghost use Rattle.hhbc_repo.specs.LinkFaults.{names, place_in};
-ghost use Rattle.hhbc_repo.specs.Names.{distinct};
+ghost use Rattle.hhbc_repo.specs.Names.{bytes_of, distinct};
 ghost use Rattle.hhbc_repo.specs.Once.{added};
 
 use crate::body::Body;
@@ -45,6 +45,20 @@ impl NameTable {
         ensures { result ≡ place_in self.now name.now }
     {
         self.keys.get_index_of(name)
+    }
+
+    /// How many names there are.
+    pub(crate) fn len(&self) -> usize
+        ensures { result ≡ length self.now }
+    {
+        self.keys.len()
+    }
+
+    /// The names in their order, as bytes.
+    pub(crate) fn keys(&self) -> &[Vec<u8>]
+        ensures { bytes_of result.now ≡ self.now }
+    {
+        self.keys.as_slice()
     }
 
     /// Whether the name is in the table.

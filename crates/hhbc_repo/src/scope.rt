@@ -92,18 +92,20 @@ fn unknown_number(alloc: Global, owner: &[u8], number: u8) -> LinkError
 }
 
 impl<'a> Scope<'a> {
+    /// A body of which the names of the locals are listed.
     pub(crate) fn new(
         alloc: Global,
         known: &'a Known<'a>,
         body: &'a BodyParts,
         owner: &'a [u8],
+        names: &[Text],
     ) -> Result<Scope<'a>, NoMemory>
+        requires names { names.now ≡ locals_of body.now }
         requires few { length (locals_of body.now) ≤ 255 }
         requires fits { length (positions_of body.now) < 2 ^ 32 }
         ensures { IfOk result (λ s. s ≡ record { whole = known.now; body = body.now; owner = owner.now }) }
     {
-        let names = local_names(alloc, body)?;
-        let locals = places_of(alloc, names.as_slice())?;
+        let locals = places_of(alloc, names)?;
         let labels = numbered_labels(alloc, body.items.as_slice())?;
         Ok(Scope {
             known,

@@ -3,8 +3,8 @@ use Rattle.type_lattice.specs.Classes.{chain_within, has}
 use Rattle.hhbc_repo.proofs.ChainLaws.{few_classes, few_at_root, few_at_met, counted_up, too_many}
 use Rattle.hhbc_repo.proofs.class_chains.is_shallow.Goals as goal
 
-pub returns-then-parents-lt-MOST_CLASSES : goal.returns-then-parents-lt-MOST_CLASSES
-returns-then-parents-lt-MOST_CLASSES c =
+pub returns-then-parents-lt-MOST_ON_CHAIN : goal.returns-then-parents-lt-MOST_ON_CHAIN
+returns-then-parents-lt-MOST_ON_CHAIN c =
     let few : length c.args.parents.now < 64 = search rules in sym (few_classes c.args.parents.now 64 c.args.class few)
 
 pub returns-in-None : goal.returns-in-None

@@ -28,7 +28,7 @@ new-requires-clause-sound c =
     let w = whole c.args.parts.functions c.args.parts.classes in
     let checked : Checks (faults w) (linked w) c.linked_parts.result = c.linked_parts.ensures w refl in
     let passes = subst (λ (q : Result (List Body × List Class) LinkError). Checks (faults w) (linked w) q) c.in-Ok.is checked in
-    subst Sound (sym (ap both passes.1)) (sound_links w c.requires.properties passes.0)
+    subst Sound (sym (ap both passes.1)) (sound_links w c.requires.properties c.requires.lists passes.0)
 
 pub new-requires-clause-spelled : goal.new-requires-clause-spelled
 new-requires-clause-spelled c =

@@ -7,7 +7,7 @@ use Rattle.stack_verify.proofs.Bodies.{given_next, types_next, typed, stops_ther
 use Rattle.stack_verify.proofs.verified.shapes_of.Goals as goal
 
 pub walk_over-requires : goal.walk_over-requires
-walk_over-requires c = c.is_sound.ensures c.loop-number.number c.body.result.now c.body.ensures
+walk_over-requires c = c.is_sound.ensures.iterators c.loop-number.number c.body.result.now c.body.ensures
 
 pub loop-number-preserved : goal.loop-number-preserved
 loop-number-preserved c =

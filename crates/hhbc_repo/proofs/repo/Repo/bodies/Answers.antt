@@ -9,7 +9,7 @@ pub overflow_cast-result : goal.overflow_cast-result
 overflow_cast-result c =
     let r : Linked = record { functions = c.self.inside.functions; classes = c.self.inside.classes } in
     let e : length c.as_slice.result.now ≡ length (bodies r) = ap (λ (hs : List Home). length hs) (c.as_slice.ensures ∙ c.self.invariant.homes_are) ∙ length_of r in
-    let b = c.self.invariant.body_count in
+    let b = c.self.invariant.sound.body_count in
     omega (arith, e, b)
 
 pub returns : goal.returns

@@ -1,0 +1,14 @@
+use Rattle.std.proofs.Common.{sym, ap, ◌∙◌}
+use Rattle.hhbc_repo.specs.declared.repo.Class.{Class}
+use Rattle.std.proofs.Common.{slice_set, List}
+use Rattle.hhbc_repo.specs.declared.body.Body.{Body}
+use Rattle.hhbc_repo.specs.Claims.{changed}
+use Rattle.hhbc_repo.specs.ChangedClaims.{claimed}
+use Rattle.hhbc_repo.proofs.ChangedParts.{changed_none, changed_set}
+use Rattle.hhbc_repo.proofs.claims.claim_method.Goals as goal
+
+pub returns-in-Some : goal.returns-in-Some
+returns-in-Some c = ap (λ (ms : List Body). slice_set c.args.classes.now c.args.class (record c.in-Some.class.now { methods = ms })) c.claim_body.ensures ∙ changed_set (λ (k : Class). record k { methods = changed (claimed c.args.new) c.args.at k.methods }) c.args.class c.args.classes.now c.in-Some.class.now c.in-Some.ensures.value
+
+pub returns-in-None : goal.returns-in-None
+returns-in-None c = sym (changed_none (λ (k : Class). record k { methods = changed (claimed c.args.new) c.args.at k.methods }) c.args.class c.args.classes.now c.in-None.ensures.variant.1)
