@@ -47,7 +47,7 @@ fn stack_assertion(
     ensures { OnOk result (out.new ≡ out.old ++ text_of (line depth (token.Word word.now) ∷ spaced (token.Integer (pos slot)) ∷ type_pieces (canonical_type scope.now.classes t.now))) }
 {
     line_word(out, depth, word)?;
-    spaced_count(alloc, out, u16::from(slot))?;
+    spaced_count(out, u16::from(slot))?;
     spaced_type(alloc, out, scope.classes(), t)
 }
 
@@ -110,7 +110,7 @@ fn push_code(
 {
     match code {
         Code::Plain(code) => push_instruction(alloc, out, depth, scope, code),
-        Code::Member(member) => push_member(alloc, out, depth, scope, member),
+        Code::Member(member) => push_member(out, depth, scope, member),
     }
 }
 

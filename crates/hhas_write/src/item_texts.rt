@@ -23,8 +23,8 @@ pub(crate) fn push_items(
     let positions = scope.positions();
     let mut inner = depth;
     for (place, position) in positions.iter().enumerate() {
-        push_before(alloc, out, &mut inner, scope, place)?;
+        push_before(out, &mut inner, scope, place)?;
         push_position(alloc, out, inner, scope, position)?;
     }
-    push_before(alloc, out, &mut inner, scope, positions.len())
+    push_before(out, &mut inner, scope, positions.len())
 }
