@@ -1,7 +1,9 @@
 -- How strings are read byte by byte.
-use Rattle.std.proofs.Common.{◌≡◌, ℕ, zero, suc, ◌+◌, ◌<◌, ◌≤◌, refl, sym, ap, ◌∙◌, false, List, [], ◌∷◌, ◌++◌, length, take, get_or, fold, append_assoc, append-nil, length-append, arith, inl, inr}
+use Rattle.std.proofs.Common.{◌≡◌, ℕ, zero, suc, ◌+◌, ◌<◌, ◌≤◌, refl, sym, ap, ◌∙◌, false, List, [], ◌∷◌, ◌++◌, length, take, get_or, fold, append_assoc, append-nil, length-append, arith, inl, inr, Option, Some}
+use Rattle.std.specs.List.{between}
 use Rattle.std.specs.Option.{option_to_list}
 use Rattle.std.proofs.lemmas.List.{take_more}
+use Rattle.std.proofs.lemmas.List.Edits.{between_more, between_none}
 use Rattle.std.proofs.lemmas.List.Sums.{fold_more}
 use Rattle.std.proofs.lemmas.Bool.{cases_lt}
 use Rattle.hhas_lex.specs.declared.strings.Mode.{Mode}
@@ -85,6 +87,21 @@ unclosed-more bs i m n h e f g u j le =
       | inr ge ↦ u j ge
     ]
 
-pub value_of-pushed : (bs : List ℕ) (i : ℕ) (m : Mode) (old new : List ℕ) → i < length bs → m ≡ fold step Plain (take i bs) → old ≡ value_of (take i bs)
-    → new ≡ old ++ option_to_list (given m (get_or bs i 0)) → new ≡ value_of (take (i + 1) bs)
-value_of-pushed bs i m old new h e v f = f ∙ ap (λ z. z ++ option_to_list (given m (get_or bs i 0))) v ∙ sym (value_of-more bs i m h e)
+-- ---- a value by runs of bytes that stand for themselves
+
+-- one more byte of a run
+pub run-on : (bs : List ℕ) (from i on : ℕ) (m : Mode) (old new : List ℕ) → i < length bs → from ≤ i → m ≡ fold step Plain (take i bs)
+    → old ++ between from i bs ≡ value_of (take i bs) → given m (get_or bs i 0) ≡ Some (get_or bs i 0) → new ≡ old → on ≡ from
+    → new ++ between on (i + 1) bs ≡ value_of (take (i + 1) bs)
+run-on bs from i on m old new h le e v g f n =
+    ap (λ z. z ++ between on (i + 1) bs) f ∙ ap (λ k. old ++ between k (i + 1) bs) n ∙ ap (λ z. old ++ z) (between_more bs from i 0 le h)
+    ∙ sym (append_assoc old (between from i bs) (get_or bs i 0 ∷ [])) ∙ ap (λ z. z ++ get_or bs i 0 ∷ []) v
+    ∙ ap (λ (o : Option ℕ). value_of (take i bs) ++ option_to_list o) (sym g) ∙ sym (value_of-more bs i m h e)
+
+-- a run, and the byte that ends it
+pub run-pushed : (bs : List ℕ) (from i on : ℕ) (m : Mode) (old new : List ℕ) → i < length bs → m ≡ fold step Plain (take i bs)
+    → old ++ between from i bs ≡ value_of (take i bs) → new ≡ (old ++ between from i bs) ++ option_to_list (given m (get_or bs i 0)) → on ≡ i + 1
+    → new ++ between on (i + 1) bs ≡ value_of (take (i + 1) bs)
+run-pushed bs from i on m old new h e v f n =
+    ap (λ k. new ++ between k (i + 1) bs) n ∙ ap (λ z. new ++ z) (between_none bs (i + 1)) ∙ append-nil new ∙ f
+    ∙ ap (λ z. z ++ option_to_list (given m (get_or bs i 0))) v ∙ sym (value_of-more bs i m h e)

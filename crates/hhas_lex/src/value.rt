@@ -1,6 +1,6 @@
 //! The values of strings.
 
-ghost use Rattle.std.specs.Prelude.{◌≡◌, ◌≤◌, ◌++◌, length, IfOk, OnOk};
+ghost use Rattle.std.specs.Prelude.{◌≡◌, ◌≤◌, ◌++◌, length, IfOk, OnOk, true, Some};
 ghost use Rattle.std.specs.Option.{option_to_list};
 ghost use Rattle.hhas_lex.specs.Strings.{IsSmall, given};
 ghost use Rattle.hhas_lex.specs.Tokens.{Str, meaning};
@@ -9,6 +9,16 @@ use crate::strings::{Mode, given, step};
 use crate::token::{Token, TokenKind};
 use hack_values::{NoMemory, Text};
 use std::alloc::Global;
+
+/// Whether the byte stands in the value as it is, by itself.
+fn is_literal(mode: Mode, byte: u8) -> bool
+    ensures { result ≡ true → given mode byte ≡ Some byte }
+{
+    match mode {
+        Mode::Plain => byte != b'"' && byte != b'\\',
+        _ => false,
+    }
+}
 
 /// Puts the byte that stands in the value once this byte is read at the end, if one does.
 fn push_given(value: &mut Text, mode: Mode, byte: u8) -> Result<(), NoMemory>
@@ -21,7 +31,16 @@ fn push_given(value: &mut Text, mode: Mode, byte: u8) -> Result<(), NoMemory>
     }
 }
 
-/// The value of a string of the text.
+/// Puts the bytes at the end, and the byte that stands in the value once this one is read behind them, if one does.
+fn push_run(value: &mut Text, run: &[u8], mode: Mode, byte: u8) -> Result<(), NoMemory>
+    requires { IsSmall mode }
+    ensures { OnOk result (value.new ≡ value.old ++ run.now ++ option_to_list (given mode byte)) }
+{
+    value.append(run)?;
+    push_given(value, mode, byte)
+}
+
+/// The value of a string of the text. Bytes that stand for themselves are copied by runs.
 pub fn string_value(alloc: Global, text: &[u8], token: Token) -> Result<Text, NoMemory>
     requires kind { token.kind ≡ TokenKind.Str }
     requires ordered { token.start ≤ token.end }
@@ -33,9 +52,14 @@ pub fn string_value(alloc: Global, text: &[u8], token: Token) -> Result<Text, No
         return Ok(value);
     };
     let mut mode = Mode::Plain;
-    for byte in pieces {
-        push_given(&mut value, mode, *byte)?;
+    let mut from = 0;
+    for (at, byte) in pieces.iter().enumerate() {
+        if !is_literal(mode, *byte) {
+            push_run(&mut value, &pieces[from..at], mode, *byte)?;
+            from = at + 1;
+        }
         mode = step(mode, *byte);
     }
+    value.append(&pieces[from..])?;
     Ok(value)
 }

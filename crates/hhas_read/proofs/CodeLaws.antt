@@ -14,6 +14,7 @@ use Rattle.hhbc_repo.specs.declared.parts.CodeParts.{CodeParts}
 use Rattle.hhbc_repo.specs.declared.parts.CodeParts.TheVariants as forms
 use Rattle.hhbc_repo.specs.declared.parts.InstrParts.{InstrParts}
 use Rattle.hhbc_repo.specs.CodeSyntax.{ABase, ACode, AnInstruction, Operands, is_reserved}
+use Rattle.hhas_read.specs.Reading.{Placed, next}
 use Rattle.hhas_read.specs.Written.{ends_type}
 use Rattle.hhas_read.proofs.Joining.{Lawful}
 use Rattle.hhas_read.proofs.Reserved.{never_both}
@@ -21,7 +22,8 @@ use Rattle.hhas_read.proofs.Said.{same_word}
 use Rattle.hhas_read.proofs.FormLaws.{base_word}
 use Rattle.hhas_read.proofs.MemberLaws.{member_law}
 use Rattle.hhas_read.proofs.OperandRuns.{kinds_last, operands_lawful}
-use Rattle.hhas_read.proofs.CodeForms.{code_begins, code_name, instruction_begins, op_no_base, some_instruction, with_operands}
+use Rattle.hhas_read.proofs.CodeForms.{code_begins, code_name, instruction_begins, op_no_base, plain_resumes, some_instruction, with_operands}
+use Rattle.hhas_read.proofs.Resuming.{Resumes}
 
 same_op : (a b x y : List Token) (i j : InstrParts) → AnInstruction a i → AnInstruction b j → a ++ x ≡ b ++ y → i.op ≡ j.op
 same_op a b x y i j n m e = names_differ i.op j.op (same_word (op_name i.op) (op_name j.op) (sym (instruction_begins a i x n) ∙ ap front e ∙ instruction_begins b j y m))
@@ -104,8 +106,19 @@ no_stack_claim (forms.Member m) = by m.base
     by (bases.Local w) = refl
     by _ = refl
 
+-- nor is one an instruction's
+pub op_no_claim : (op : Op) (t : Token) → t ≡ Word (op_name op) → (t ≡ Word (codes "AssertRATL") → ⊥) × (t ≡ Word (codes "AssertRATStk") → ⊥)
+op_no_claim op t is = (
+  λ e. differ (op_name op) (codes "AssertRATL") (no_local_claim (forms.Plain (with_operands op []))) (sym is ∙ e),
+  λ e. differ (op_name op) (codes "AssertRATStk") (no_stack_claim (forms.Plain (with_operands op []))) (sym is ∙ e),
+)
+
 pub code_no_claim : (w : List Token) (c : CodeParts) (x : List Token) → ACode w c → (front (w ++ x) ≡ Word (codes "AssertRATL") → ⊥) × (front (w ++ x) ≡ Word (codes "AssertRATStk") → ⊥)
 code_no_claim w c x n = (
   λ e. differ (code_name c) (codes "AssertRATL") (no_local_claim c) (sym (code_begins w c x n) ∙ e),
   λ e. differ (code_name c) (codes "AssertRATStk") (no_stack_claim c) (sym (code_begins w c x n) ∙ e),
 )
+
+-- an instruction is next
+pub named_code : (op : Op) (old : Placed) → next old ≡ Word (op_name op) → Resumes ends_type ACode [] AnInstruction forms.Plain old.tokens
+named_code op old is = plain_resumes old.tokens (λ b e. differ (op_name op) (base_word b) (op_no_base op b) (sym is ∙ e))

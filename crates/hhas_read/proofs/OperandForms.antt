@@ -1,5 +1,5 @@
 -- Which languages spell the operands of each kind.
-use Rattle.std.proofs.Common.{◌≡◌, ℕ, ℤ, List, [], ◌∷◌, refl, sym, subst, Option, Err}
+use Rattle.std.proofs.Common.{◌≡◌, ℕ, ℤ, List, [], ◌∷◌, refl, sym, subst, Option, Result, Ok, Err, MatchResult, IsOkAnd}
 use Rattle.hhas_lex.specs.Tokens.{Token, Mark}
 use Rattle.hhbc_ops.specs.declared.words.ImmKind.{ImmKind}
 use Rattle.hhbc_ops.specs.declared.words.ImmKind.TheVariants as kinds
@@ -17,8 +17,8 @@ use Rattle.hhas_read.specs.Arms.{ArmsToEnd, StringArmsToEnd}
 use Rattle.hhas_read.specs.OneWord.{AnIsType}
 use Rattle.hhas_read.specs.declared.reader.Stop.{Stop}
 use Rattle.hhas_read.specs.Kinds.{after}
-use Rattle.hhas_read.specs.Reading.{Follow, Placed, Reads}
-use Rattle.hhas_read.proofs.Resuming.{Resumes, past_none, stop_lifts}
+use Rattle.hhas_read.specs.Reading.{Follow, Placed, Reads, Taken}
+use Rattle.hhas_read.proofs.Resuming.{Resumes, past_none, stop_lifts, taken_lifts}
 use Rattle.hhas_read.proofs.Joining.{Lawful}
 use Rattle.hhas_read.proofs.Making.{made_lawful}
 
@@ -35,6 +35,17 @@ pub kind_stops : {V : Type 0} (kind one : ImmKind) → kind ≡ one → (A : Lan
 kind_stops kind one is A f s old new e r =
     subst (λ k. Reads (after k) (Operand k) old (Err e) new) (sym is)
     (stop_lifts (after one) (Operand one) A old old new [] f e (spelled_resumes (after one) one A f s old.tokens) (past_none old) r)
+
+-- an operand of the kind, made of what was read
+pub kind_made : {V : Type 0} (kind one : ImmKind) → kind ≡ one → (A : Lang V) (f : V → ImmParts) → Spelled one A f → (old new : Placed) (r : Result V Stop) (m : Result ImmParts Stop)
+    → MatchResult r (λ v. IsOkAnd m (λ x. x ≡ f v)) (λ e. m ≡ Err e) → Reads (after one) A old r new → Reads (after kind) (Operand kind) old m new
+kind_made kind one is A f s old new (Ok v) (Ok x) c t =
+    subst (λ k. Taken (after k) (Operand k) old new x) (sym is)
+    (subst (λ z. Taken (after one) (Operand one) old new z) (sym c)
+    (taken_lifts (after one) (Operand one) A old old new [] f v (spelled_resumes (after one) one A f s old.tokens) (past_none old) t))
+kind_made kind one is A f s old new (Ok v) (Err e) c t = absurd c
+kind_made kind one is A f s old new (Err e) m c t =
+    subst (λ z. Reads (after kind) (Operand kind) old z new) (sym c) (kind_stops kind one is A f s old new e t)
 
 pub spelled_lawful : {V : Type 0} (F : Follow) (kind : ImmKind) (A : Lang V) (f : V → ImmParts) → Spelled kind A f → Lawful F A → Lawful F (Operand kind)
 spelled_lawful F kind A f s law =

@@ -1,23 +1,26 @@
 -- Positions stand apart from what follows them, and each has one value.
 use Rattle.std.proofs.Common.{◌≡◌, ℕ, true, false, List, [], ◌∷◌, ◌++◌, inl, inr, refl, ap, ◌∙◌, Err}
 use Rattle.hhas_lex.specs.Tokens.{Token, Word, front}
+use Rattle.hhbc_ops.specs.declared.op.Op.{Op}
+use Rattle.hhbc_ops.specs.Ops.{op_name}
 use Rattle.hhbc_repo.specs.declared.parts.AssertParts.{AssertParts}
 use Rattle.hhbc_repo.specs.declared.parts.AssertParts.TheVariants as claims
 use Rattle.hhbc_repo.specs.declared.parts.CodeParts.{CodeParts}
+use Rattle.hhbc_repo.specs.declared.parts.CodeParts.TheVariants as forms
 use Rattle.hhbc_repo.specs.declared.parts.PositionParts.{PositionParts}
 use Rattle.hhbc_repo.specs.BodySyntax.{AnAssert, APosition}
-use Rattle.hhbc_repo.specs.CodeSyntax.{ACode, is_reserved}
+use Rattle.hhbc_repo.specs.CodeSyntax.{ACode, AnInstruction, is_reserved}
 use Rattle.hhas_read.specs.declared.reader.Stop.{Stop}
 use Rattle.hhas_read.specs.Assertions.{IsAssertionNext}
 use Rattle.hhas_read.specs.Reading.{Past, Placed, Reads, Taken, next}
 use Rattle.hhas_read.specs.Written.{ends_type}
-use Rattle.hhas_read.proofs.Resuming.{Resumes}
+use Rattle.hhas_read.proofs.Resuming.{Resumes, past_none, past_on, resumes_then}
 use Rattle.hhas_read.proofs.Joining.{Lawful, LeadsOn}
 use Rattle.hhas_read.proofs.Following.{Avoids}
 use Rattle.hhas_read.proofs.Runs.{Run, run_leads, run_none}
 use Rattle.hhas_read.proofs.Many.{Apart, RunTaken, last_next, none_taken, one_stops, one_taken, run_lawful}
 use Rattle.hhas_read.proofs.AssertionForms.{assertion_law, assertion_begins, assertion_leads, assertion_split, assertion_word, no_assertion}
-use Rattle.hhas_read.proofs.CodeLaws.{code_law, code_no_claim, code_word}
+use Rattle.hhas_read.proofs.CodeLaws.{code_law, code_no_claim, code_word, named_code, op_no_claim}
 
 abbrev pub AssertionsAndCode : Type 0
 AssertionsAndCode = List AssertParts × CodeParts
@@ -95,3 +98,13 @@ assertion_stops start old new vs e inv is s =
 pub code_next : (start old : Placed) (vs : List AssertParts) → AssertionsTaken start old vs → IsAssertionNext old false
     → (used : List Token) × Past used start old × Resumes ends_type APosition used ACode (λ c. of_run (vs, c)) old.tokens
 code_next start old vs inv other = last_next ends_type AnAssert ACode APosition of_run ends_type more_leads start old vs inv (no_assertion ends_type old other)
+
+-- an instruction is next
+pub instruction_next : (op : Op) (old : Placed) → next old ≡ Word (op_name op)
+    → (used : List Token) × Past used old old × Resumes ends_type APosition used AnInstruction (λ i. of_run ([], forms.Plain i)) old.tokens
+instruction_next op old is =
+    let far = code_next old old [] (no_assertions old) (op_no_claim op (next old) is) in (
+      far.0 ++ [],
+      past_on far.1 (past_none old),
+      resumes_then ends_type APosition ACode AnInstruction far.0 [] old.tokens old.tokens (λ c. of_run ([], c)) forms.Plain far.2 (named_code op old is) refl,
+    )

@@ -1,16 +1,18 @@
 //! Instructions and codes.
 
 ghost use Rattle.std.specs.Prelude.{◌≡◌, true};
+ghost use Rattle.hhas_lex.specs.Tokens.{Word};
+ghost use Rattle.hhbc_ops.specs.Ops.{op_name};
 ghost use Rattle.hhbc_repo.specs.CodeSyntax.{ACode, AMemberSeq, AnInstruction, Operands};
 ghost use Rattle.hhbc_repo.specs.Languages.{Means};
 ghost use Rattle.hhbc_repo.specs.declared.parts.CodeParts.TheVariants.{Member};
 ghost use Rattle.hhas_read.specs.Kinds.{constraint_last};
-ghost use Rattle.hhas_read.specs.Reading.{Reads};
+ghost use Rattle.hhas_read.specs.Reading.{Reads, next};
 ghost use Rattle.hhas_read.specs.Written.{ends_type};
 
 use crate::reader::{Piece, Reader, Stop};
 use hack_values::Seq;
-use hhbc_ops::{ImmKind, immediates, op_named};
+use hhbc_ops::{ImmKind, Op, immediates, op_named};
 use hhbc_repo::{CodeParts, ImmParts, InstrParts};
 use std::alloc::Global;
 
@@ -31,16 +33,11 @@ impl<'a> Reader<'a> {
         Ok(operands)
     }
 
-    /// The name of an instruction, and its operands.
-    pub fn instruction(&mut self, alloc: Global) -> Result<InstrParts, Stop>
+    /// An instruction that was looked up by its name, which is next, and its operands.
+    pub(crate) fn named_instruction(&mut self, alloc: Global, op: Op) -> Result<InstrParts, Stop>
+        requires { next self.old ≡ Word (op_name op) }
         ensures { Reads ends_type AnInstruction self.old result self.new }
     {
-        let Piece::Word(name) = self.peek() else {
-            return Err(Stop::Syntax);
-        };
-        let Some(op) = op_named(name) else {
-            return Err(Stop::Syntax);
-        };
         self.skip();
         match self.operands(alloc, immediates(op)) {
             Ok(imms) => Ok(InstrParts { op, imms }),
@@ -48,7 +45,21 @@ impl<'a> Reader<'a> {
         }
     }
 
+    /// The name of an instruction, and its operands.
+    fn instruction(&mut self, alloc: Global) -> Result<InstrParts, Stop>
+        ensures { Reads ends_type AnInstruction self.old result self.new }
+    {
+        let Piece::Word(name) = self.peek() else {
+            return Err(Stop::Syntax);
+        };
+        match op_named(name) {
+            Some(op) => self.named_instruction(alloc, op),
+            None => Err(Stop::Syntax),
+        }
+    }
+
     /// A member sequence, as a code.
+    #[inline(never)]
     fn member_code(&mut self, alloc: Global) -> Result<CodeParts, Stop>
         ensures { Reads ends_type (Means Member AMemberSeq) self.old result self.new }
     {

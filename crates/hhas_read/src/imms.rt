@@ -2,7 +2,7 @@
 
 ghost use Rattle.hhbc_repo.specs.CodeSyntax.{Operand};
 ghost use Rattle.hhas_read.specs.Kinds.{after};
-ghost use Rattle.hhas_read.specs.Reading.{Reads};
+ghost use Rattle.hhas_read.specs.Reading.{Reads, any};
 
 use crate::reader::{Reader, Stop};
 use hhbc_ops::ImmKind;
@@ -10,72 +10,37 @@ use hhbc_repo::ImmParts;
 use std::alloc::Global;
 
 impl<'a> Reader<'a> {
+    /// The locals of an iterator, as an operand.
+    fn iter_locals_operand(&mut self, alloc: Global) -> Result<ImmParts, Stop>
+        ensures { Reads any (Operand ImmKind.IterLocals) self.old result self.new }
+    {
+        match self.iter_locals(alloc) {
+            Ok((key, value)) => Ok(ImmParts::IterLocals(key, value)),
+            Err(stop) => Err(stop),
+        }
+    }
+
     /// An operand of the kind. The rules that are rare or take much room are kept from being inlined: with them, each operand
     /// would pay for the room of all.
     pub fn operand(&mut self, alloc: Global, kind: ImmKind) -> Result<ImmParts, Stop>
         ensures { Reads (after kind) (Operand kind) self.old result self.new }
     {
         match kind {
-            ImmKind::Int => match self.integer() {
-                Ok(value) => Ok(ImmParts::Int(value)),
-                Err(stop) => Err(stop),
-            },
-            ImmKind::Count => match self.number(254) {
-                Ok(value) => Ok(ImmParts::Count(value)),
-                Err(stop) => Err(stop),
-            },
-            ImmKind::Str => match self.string(alloc) {
-                Ok(value) => Ok(ImmParts::Str(value)),
-                Err(stop) => Err(stop),
-            },
-            ImmKind::Name => match self.word(alloc) {
-                Ok(value) => Ok(ImmParts::Name(value)),
-                Err(stop) => Err(stop),
-            },
-            ImmKind::Local => match self.local(alloc) {
-                Ok(value) => Ok(ImmParts::Local(value)),
-                Err(stop) => Err(stop),
-            },
-            ImmKind::Iter => match self.index() {
-                Ok(value) => Ok(ImmParts::Iter(value)),
-                Err(stop) => Err(stop),
-            },
-            ImmKind::Label => match self.label(alloc) {
-                Ok(value) => Ok(ImmParts::Pos(value)),
-                Err(stop) => Err(stop),
-            },
-            ImmKind::Class => match self.word(alloc) {
-                Ok(value) => Ok(ImmParts::Class(value)),
-                Err(stop) => Err(stop),
-            },
-            ImmKind::IncDec => match self.inc_dec() {
-                Ok(value) => Ok(ImmParts::IncDec(value)),
-                Err(stop) => Err(stop),
-            },
-            ImmKind::SetOp => match self.set_op() {
-                Ok(value) => Ok(ImmParts::SetOp(value)),
-                Err(stop) => Err(stop),
-            },
-            ImmKind::IsType => match self.is_type() {
-                Ok(value) => Ok(ImmParts::IsType(value)),
-                Err(stop) => Err(stop),
-            },
-            ImmKind::Switch => match self.arms(alloc) {
-                Ok(value) => Ok(ImmParts::Arms(value)),
-                Err(stop) => Err(stop),
-            },
-            ImmKind::SSwitch => match self.string_arms(alloc) {
-                Ok(value) => Ok(ImmParts::Arms(value)),
-                Err(stop) => Err(stop),
-            },
-            ImmKind::IterLocals => match self.iter_locals(alloc) {
-                Ok((key, value)) => Ok(ImmParts::IterLocals(key, value)),
-                Err(stop) => Err(stop),
-            },
-            ImmKind::Constraint => match self.constraint_parts(alloc) {
-                Ok(value) => Ok(ImmParts::Constraint(value)),
-                Err(stop) => Err(stop),
-            },
+            ImmKind::Int => self.integer().map(ImmParts::Int),
+            ImmKind::Count => self.number(254).map(ImmParts::Count),
+            ImmKind::Str => self.string(alloc).map(ImmParts::Str),
+            ImmKind::Name => self.word(alloc).map(ImmParts::Name),
+            ImmKind::Local => self.local(alloc).map(ImmParts::Local),
+            ImmKind::Iter => self.index().map(ImmParts::Iter),
+            ImmKind::Label => self.label(alloc).map(ImmParts::Pos),
+            ImmKind::Class => self.word(alloc).map(ImmParts::Class),
+            ImmKind::IncDec => self.inc_dec().map(ImmParts::IncDec),
+            ImmKind::SetOp => self.set_op().map(ImmParts::SetOp),
+            ImmKind::IsType => self.is_type().map(ImmParts::IsType),
+            ImmKind::Switch => self.arms(alloc).map(ImmParts::Arms),
+            ImmKind::SSwitch => self.string_arms(alloc).map(ImmParts::Arms),
+            ImmKind::IterLocals => self.iter_locals_operand(alloc),
+            ImmKind::Constraint => self.constraint_parts(alloc).map(ImmParts::Constraint),
         }
     }
 }

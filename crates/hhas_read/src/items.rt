@@ -8,10 +8,11 @@ ghost use Rattle.hhbc_repo.specs.Languages.{Ended};
 ghost use Rattle.hhas_read.specs.Nesting.{CatchOpening, Opening};
 ghost use Rattle.hhas_read.specs.Reading.{Reads, any};
 
-use crate::labels::is_reserved;
+use crate::labels::is_other_name;
 use crate::open_bodies::{OpenBodies, OpenBody};
 use crate::reader::{Piece, Reader, Stop};
 use hack_values::Seq;
+use hhbc_ops::op_named;
 use hhbc_repo::ItemParts;
 use std::alloc::Global;
 
@@ -46,7 +47,13 @@ impl<'a> Reader<'a> {
         let mut needs_code = false;
         'items: loop {
             if let Piece::Word(name) = self.peek() {
-                if is_reserved(name) {
+                if let Some(op) = op_named(name) {
+                    let position = self.named_position(alloc, op)?;
+                    items.push(ItemParts::Position(position))?;
+                    needs_code = false;
+                    continue 'items;
+                }
+                if is_other_name(name) {
                     let position = self.position(alloc)?;
                     items.push(ItemParts::Position(position))?;
                     needs_code = false;

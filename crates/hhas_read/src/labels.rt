@@ -20,7 +20,7 @@ fn is_among(names: &[&'static str], name: &[u8]) -> bool
 
 /// The word is one of assertions and member sequences.
 #[tactic(auto, unfolding(hhbc_repo::specs::CodeSyntax::other_names))]
-fn is_other_name(name: &[u8]) -> bool
+pub(crate) fn is_other_name(name: &[u8]) -> bool
     ensures { result ≡ list_any (λ other. bytes_eq other name.now) code.other_names }
 {
     is_among(

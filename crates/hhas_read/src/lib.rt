@@ -41,13 +41,8 @@ mod type_parts;
 mod types;
 mod whole_types;
 
-pub use atoms::{Atom, Head};
 pub use labels::is_reserved;
 pub use laws::{first_fault_is_one, text_spells_one_repository};
-pub use leaves::Written;
 pub use linked_texts::{ReadFault, read_text};
-pub use reader::{Piece, Reader, Stop};
 pub use reading_back::{canonical_texts_are_read_back, repository_is_read_back};
 pub use texts::{PartsFault, read_parts};
-pub use types::TypeAtom;
-pub use whole_types::WrittenType;

@@ -1,14 +1,17 @@
 //! Positions: a code, and the assertions before it.
 
 ghost use Rattle.std.specs.Prelude.{◌≡◌};
+ghost use Rattle.hhas_lex.specs.Tokens.{Word};
+ghost use Rattle.hhbc_ops.specs.Ops.{op_name};
 ghost use Rattle.hhbc_repo.specs.BodySyntax.{AnAssert, APosition};
 ghost use Rattle.hhas_read.specs.Assertions.{IsAssertionNext, LocalAssertion, StackAssertion};
-ghost use Rattle.hhas_read.specs.Reading.{Reads};
+ghost use Rattle.hhas_read.specs.Reading.{Reads, next};
 ghost use Rattle.hhas_read.specs.Written.{ends_type};
 
 use crate::reader::{Reader, Stop};
 use hack_values::Seq;
-use hhbc_repo::{AssertParts, PositionParts};
+use hhbc_ops::Op;
+use hhbc_repo::{AssertParts, CodeParts, PositionParts};
 use std::alloc::Global;
 
 impl<'a> Reader<'a> {
@@ -52,7 +55,22 @@ impl<'a> Reader<'a> {
         self.is_word(b"AssertRATL") || self.is_word(b"AssertRATStk")
     }
 
+    /// A position without assertions, of an instruction that was looked up by its name, which is next.
+    pub(crate) fn named_position(&mut self, alloc: Global, op: Op) -> Result<PositionParts, Stop>
+        requires { next self.old ≡ Word (op_name op) }
+        ensures { Reads ends_type APosition self.old result self.new }
+    {
+        match self.named_instruction(alloc, op) {
+            Ok(instruction) => Ok(PositionParts {
+                asserts: Seq::new(alloc),
+                code: CodeParts::Plain(instruction),
+            }),
+            Err(stop) => Err(stop),
+        }
+    }
+
     /// Assertions, perhaps none, and the code that they stand before.
+    #[inline(never)]
     pub fn position(&mut self, alloc: Global) -> Result<PositionParts, Stop>
         ensures { Reads ends_type APosition self.old result self.new }
     {

@@ -183,67 +183,55 @@ fn type_with(alloc: Global, first: u32, atom: &TypeAtom, t: HType) -> Result<HTy
 }
 
 /// Puts the class of the atom last.
-fn push_class(alloc: Global, classes: &mut Seq<Text>, atom: &Atom) -> Result<(), NoMemory>
-    ensures { OnOk result (classes.new ≡ classes.old ++ atom_classes (atom_of atom.now)) }
+fn push_class(classes: &mut Seq<Text>, atom: Atom) -> Result<(), NoMemory>
+    ensures { OnOk result (classes.new ≡ classes.old ++ atom_classes (atom_of atom)) }
 {
-    match class_of(atom) {
-        Some(class) => classes.push(class.copy(alloc)?),
-        None => Ok(()),
+    match atom {
+        Atom::Exact(class) => classes.push(class),
+        Atom::Sub(class) => classes.push(class),
+        _ => Ok(()),
     }
 }
 
 /// Puts the classes of the atoms last.
-fn push_classes(alloc: Global, classes: &mut Seq<Text>, atoms: &[Atom]) -> Result<(), NoMemory>
-    ensures { OnOk result (classes.new ≡ classes.old ++ flat_map atom_classes (map atom_of atoms.now)) }
+fn push_classes(classes: &mut Seq<Text>, atoms: Seq<Atom>) -> Result<(), NoMemory>
+    ensures { OnOk result (classes.new ≡ classes.old ++ flat_map atom_classes (map atom_of atoms)) }
 {
-    for atom in atoms {
-        push_class(alloc, classes, atom)?;
+    for atom in atoms.into_vec() {
+        push_class(classes, atom)?;
     }
     Ok(())
 }
 
 /// Puts the classes of the leaf last.
-fn push_leaf_classes(
-    alloc: Global,
-    classes: &mut Seq<Text>,
-    written: &Written,
-) -> Result<(), NoMemory>
-    ensures { OnOk result (classes.new ≡ classes.old ++ classes_in (written_of written.now)) }
+fn push_leaf_classes(classes: &mut Seq<Text>, written: Written) -> Result<(), NoMemory>
+    ensures { OnOk result (classes.new ≡ classes.old ++ classes_in (written_of written)) }
 {
     match written {
         Written::Never => Ok(()),
         Written::Cell => Ok(()),
-        Written::Of(atoms) => push_classes(alloc, classes, atoms.as_slice()),
+        Written::Of(atoms) => push_classes(classes, atoms),
     }
 }
 
 /// Puts the classes of the key and of the leaf last.
-fn push_entry_classes(
-    alloc: Global,
-    classes: &mut Seq<Text>,
-    key: &Written,
-    leaf: &Written,
-) -> Result<(), NoMemory>
-    ensures { OnOk result (classes.new ≡ classes.old ++ (classes_in (written_of key.now) ++ classes_in (written_of leaf.now))) }
+fn push_entry_classes(classes: &mut Seq<Text>, key: Written, leaf: Written) -> Result<(), NoMemory>
+    ensures { OnOk result (classes.new ≡ classes.old ++ (classes_in (written_of key) ++ classes_in (written_of leaf))) }
 {
-    push_leaf_classes(alloc, classes, key)?;
-    push_leaf_classes(alloc, classes, leaf)
+    push_leaf_classes(classes, key)?;
+    push_leaf_classes(classes, leaf)
 }
 
 /// Puts the classes of the atom last.
-fn push_type_classes(
-    alloc: Global,
-    classes: &mut Seq<Text>,
-    atom: &TypeAtom,
-) -> Result<(), NoMemory>
-    ensures { OnOk result (classes.new ≡ classes.old ++ type_classes (type_atom_of atom.now)) }
+fn push_type_classes(classes: &mut Seq<Text>, atom: TypeAtom) -> Result<(), NoMemory>
+    ensures { OnOk result (classes.new ≡ classes.old ++ type_classes (type_atom_of atom)) }
 {
     match atom {
         TypeAtom::Uninit => Ok(()),
-        TypeAtom::Plain(atom) => push_class(alloc, classes, atom),
-        TypeAtom::VecOf(leaf) => push_leaf_classes(alloc, classes, leaf),
-        TypeAtom::DictOf(key, leaf) => push_entry_classes(alloc, classes, key, leaf),
-        TypeAtom::KeysetOf(key) => push_leaf_classes(alloc, classes, key),
+        TypeAtom::Plain(atom) => push_class(classes, atom),
+        TypeAtom::VecOf(leaf) => push_leaf_classes(classes, leaf),
+        TypeAtom::DictOf(key, leaf) => push_entry_classes(classes, key, leaf),
+        TypeAtom::KeysetOf(key) => push_leaf_classes(classes, key),
     }
 }
 
@@ -258,27 +246,27 @@ fn next_number(classes: &Seq<Text>) -> Result<u32, NoMemory>
 }
 
 /// What the atoms of a type stand for.
-fn parts_of_atoms(alloc: Global, atoms: &[TypeAtom]) -> Result<TypeParts, NoMemory>
-    ensures { IfOk result (λ parts. parts ≡ of_atoms (map type_atom_of atoms.now)) }
+fn parts_of_atoms(alloc: Global, atoms: Seq<TypeAtom>) -> Result<TypeParts, NoMemory>
+    ensures { IfOk result (λ parts. parts ≡ of_atoms (map type_atom_of atoms)) }
 {
     let mut t = HType::NEVER;
     let mut classes = Seq::new(alloc);
-    for atom in atoms {
-        t = type_with(alloc, next_number(&classes)?, atom, t)?;
-        push_type_classes(alloc, &mut classes, atom)?;
+    for atom in atoms.into_vec() {
+        t = type_with(alloc, next_number(&classes)?, &atom, t)?;
+        push_type_classes(&mut classes, atom)?;
     }
     Ok(TypeParts { t, classes })
 }
 
 /// What the atoms of a constraint stand for.
-fn parts_of_plain_atoms(alloc: Global, atoms: &[Atom]) -> Result<TypeParts, NoMemory>
-    ensures { IfOk result (λ parts. parts ≡ of_atoms (map grammar.Plain (map atom_of atoms.now))) }
+fn parts_of_plain_atoms(alloc: Global, atoms: Seq<Atom>) -> Result<TypeParts, NoMemory>
+    ensures { IfOk result (λ parts. parts ≡ of_atoms (map grammar.Plain (map atom_of atoms))) }
 {
     let mut t = HType::NEVER;
     let mut classes = Seq::new(alloc);
-    for atom in atoms {
-        t = type_plain(alloc, next_number(&classes)?, atom, t)?;
-        push_class(alloc, &mut classes, atom)?;
+    for atom in atoms.into_vec() {
+        t = type_plain(alloc, next_number(&classes)?, &atom, t)?;
+        push_class(&mut classes, atom)?;
     }
     Ok(TypeParts { t, classes })
 }
@@ -294,8 +282,8 @@ fn without_classes(alloc: Global, t: HType) -> TypeParts
 }
 
 /// What a type stands for.
-fn type_of(alloc: Global, written: &WrittenType) -> Result<TypeParts, NoMemory>
-    ensures { IfOk result (λ parts. parts ≡ type_of (written_type_of written.now)) }
+fn type_of(alloc: Global, written: WrittenType) -> Result<TypeParts, NoMemory>
+    ensures { IfOk result (λ parts. parts ≡ type_of (written_type_of written)) }
 {
     match written {
         WrittenType::Never => Ok(without_classes(alloc, HType::NEVER)),
@@ -307,18 +295,18 @@ fn type_of(alloc: Global, written: &WrittenType) -> Result<TypeParts, NoMemory>
                 ..HType::CELL
             },
         )),
-        WrittenType::Atoms(atoms) => parts_of_atoms(alloc, atoms.as_slice()),
+        WrittenType::Atoms(atoms) => parts_of_atoms(alloc, atoms),
     }
 }
 
 /// What a constraint stands for.
-fn constraint_of(alloc: Global, written: &Written) -> Result<TypeParts, NoMemory>
-    ensures { IfOk result (λ parts. parts ≡ constraint_of (written_of written.now)) }
+fn constraint_of(alloc: Global, written: Written) -> Result<TypeParts, NoMemory>
+    ensures { IfOk result (λ parts. parts ≡ constraint_of (written_of written)) }
 {
     match written {
         Written::Never => Ok(without_classes(alloc, HType::NEVER)),
         Written::Cell => Ok(without_classes(alloc, HType::CELL)),
-        Written::Of(atoms) => parts_of_plain_atoms(alloc, atoms.as_slice()),
+        Written::Of(atoms) => parts_of_plain_atoms(alloc, atoms),
     }
 }
 
@@ -331,7 +319,7 @@ impl<'a> Reader<'a> {
             Ok(written) => written,
             Err(stop) => return Err(stop),
         };
-        match type_of(alloc, &written) {
+        match type_of(alloc, written) {
             Ok(parts) => Ok(parts),
             Err(NoMemory) => Err(Stop::NoMemory),
         }
@@ -346,7 +334,7 @@ impl<'a> Reader<'a> {
             Ok(written) => written,
             Err(stop) => return Err(stop),
         };
-        match constraint_of(alloc, &written) {
+        match constraint_of(alloc, written) {
             Ok(parts) => Ok(parts),
             Err(NoMemory) => Err(Stop::NoMemory),
         }

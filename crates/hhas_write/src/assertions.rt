@@ -16,7 +16,6 @@ use crate::scope::Scope;
 use hack_values::{NoMemory, Text};
 use hhbc_ops::name_of;
 use hhbc_repo::{Assert, Code, Instr, Position};
-use std::alloc::Global;
 use type_lattice::HType;
 
 fn local_assertion(
@@ -35,7 +34,6 @@ fn local_assertion(
 }
 
 fn stack_assertion(
-    alloc: Global,
     out: &mut Text,
     depth: usize,
     word: &[u8],
@@ -46,12 +44,11 @@ fn stack_assertion(
     ensures { OnOk result (out.new ≡ out.old ++ text_of (line depth (token.Word word.now) ∷ spaced (token.Integer (pos slot)) ∷ type_pieces (canonical_type scope.now.classes t.now))) }
 {
     line_word(out, depth, word)?;
-    spaced_count(alloc, out, u16::from(slot))?;
+    spaced_count(out, u16::from(slot))?;
     spaced_type(out, scope.classes(), t)
 }
 
 fn push_assertion(
-    alloc: Global,
     out: &mut Text,
     depth: usize,
     scope: &Scope<'_>,
@@ -62,13 +59,12 @@ fn push_assertion(
     match claim {
         Assert::Local(local, t) => { local_assertion(out, depth, b"AssertRATL", scope, *local, t) }
         Assert::Stack(slot, t) => {
-            stack_assertion(alloc, out, depth, b"AssertRATStk", scope, *slot, t)
+            stack_assertion(out, depth, b"AssertRATStk", scope, *slot, t)
         }
     }
 }
 
 fn push_assertions(
-    alloc: Global,
     out: &mut Text,
     depth: usize,
     scope: &Scope<'_>,
@@ -77,14 +73,13 @@ fn push_assertions(
     ensures { OnOk result (out.new ≡ out.old ++ text_of (flat_map (assert_pieces depth) (map (canonical_assert scope.now.classes scope.now.body) claims.now))) }
 {
     for claim in claims {
-        push_assertion(alloc, out, depth, scope, claim)?;
+        push_assertion(out, depth, scope, claim)?;
     }
     Ok(())
 }
 
 /// An instruction and its operands.
 fn push_instruction(
-    alloc: Global,
     out: &mut Text,
     depth: usize,
     scope: &Scope<'_>,
@@ -93,11 +88,10 @@ fn push_instruction(
     ensures { OnOk result (out.new ≡ out.old ++ text_of (code_pieces depth (canonical_code scope.now.classes scope.now.body (forms.Plain code.now)))) }
 {
     line_word(out, depth, name_of(code.op).as_bytes())?;
-    push_operands(alloc, out, scope, code.op, code.imms.as_slice())
+    push_operands(out, scope, code.op, code.imms.as_slice())
 }
 
 fn push_code(
-    alloc: Global,
     out: &mut Text,
     depth: usize,
     scope: &Scope<'_>,
@@ -106,15 +100,14 @@ fn push_code(
     ensures { OnOk result (out.new ≡ out.old ++ text_of (code_pieces depth (canonical_code scope.now.classes scope.now.body code.now))) }
 {
     match code {
-        Code::Plain(code) => push_instruction(alloc, out, depth, scope, code),
-        Code::Member(member) => push_member(alloc, out, depth, scope, member),
+        Code::Plain(code) => push_instruction(out, depth, scope, code),
+        Code::Member(member) => push_member(out, depth, scope, member),
     }
 }
 
 /// A position.
 #[tactic(auto, using(crate::proofs::Written::text_append))]
 pub(crate) fn push_position(
-    alloc: Global,
     out: &mut Text,
     depth: usize,
     scope: &Scope<'_>,
@@ -122,6 +115,6 @@ pub(crate) fn push_position(
 ) -> Result<(), NoMemory>
     ensures { OnOk result (out.new ≡ out.old ++ text_of (position_pieces depth (canonical_position scope.now.classes scope.now.body position.now))) }
 {
-    push_assertions(alloc, out, depth, scope, position.asserts.as_slice())?;
-    push_code(alloc, out, depth, scope, &position.code)
+    push_assertions(out, depth, scope, position.asserts.as_slice())?;
+    push_code(out, depth, scope, &position.code)
 }

@@ -88,33 +88,22 @@ pub(crate) fn push_locals(out: &mut Text, depth: usize, names: &[Text]) -> Resul
     }
 }
 
-fn push_number(
-    alloc: Global,
-    out: &mut Text,
-    depth: usize,
-    word: &[u8],
-    number: u8,
-) -> Result<(), NoMemory>
+fn push_number(out: &mut Text, depth: usize, word: &[u8], number: u8) -> Result<(), NoMemory>
     ensures { OnOk result (out.new ≡ out.old ++ text_of (line depth (token.Directive word.now) ∷ spaced (token.Integer (pos number)) ∷ tight (token.Mark 59) ∷ [])) }
 {
     line_directive(out, depth, word)?;
-    spaced_count(alloc, out, u16::from(number))?;
+    spaced_count(out, u16::from(number))?;
     out.append(b";")
 }
 
 /// The number of iterators of a body.
-pub(crate) fn push_iters(
-    alloc: Global,
-    out: &mut Text,
-    depth: usize,
-    number: u8,
-) -> Result<(), NoMemory>
+pub(crate) fn push_iters(out: &mut Text, depth: usize, number: u8) -> Result<(), NoMemory>
     ensures { OnOk result (out.new ≡ out.old ++ text_of (iters_pieces depth number)) }
 {
     if number == 0 {
         Ok(())
     } else {
-        push_number(alloc, out, depth, b"numiters", number)
+        push_number(out, depth, b"numiters", number)
     }
 }
 

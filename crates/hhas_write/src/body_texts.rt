@@ -25,9 +25,9 @@ fn push_inner(
     ensures { OnOk result (out.new ≡ out.old ++ text_of (inner_pieces depth (canonical_body classes.now body.now))) }
 {
     push_locals(out, depth, declared(body))?;
-    push_iters(alloc, out, depth, body.iters)?;
+    push_iters(out, depth, body.iters)?;
     let scope = Scope::new(alloc, classes, body)?;
-    push_items(alloc, out, depth, &scope)
+    push_items(out, depth, &scope)
 }
 
 /// A function or a method, by the word of its directive.

@@ -16,14 +16,14 @@ use hhbc_repo::{Body, Class, Const, Property};
 use std::alloc::Global;
 
 /// A scalar, or the word of a container.
-fn push_cell(alloc: Global, out: &mut Text, value: &Cell) -> Result<(), NoMemory>
+fn push_cell(out: &mut Text, value: &Cell) -> Result<(), NoMemory>
     ensures { OnOk result (out.new ≡ out.old ++ spelling (cell_token value.now)) }
 {
     match value {
         Cell::Null => out.append(b"Null"),
         Cell::Bool(true) => out.append(b"True"),
         Cell::Bool(false) => out.append(b"False"),
-        Cell::Int(number) => push_int(alloc, out, *number),
+        Cell::Int(number) => push_int(out, *number),
         Cell::Str(text) => push_string(out, text.bytes()),
         Cell::Vec(_) => out.append(b"Vec"),
         Cell::Dict(_) => out.append(b"Dict"),
@@ -33,58 +33,44 @@ fn push_cell(alloc: Global, out: &mut Text, value: &Cell) -> Result<(), NoMemory
 }
 
 /// A name and its value, behind a directive.
-fn push_valued(
-    alloc: Global,
-    out: &mut Text,
-    word: &[u8],
-    name: &[u8],
-    value: &Cell,
-) -> Result<(), NoMemory>
+fn push_valued(out: &mut Text, word: &[u8], name: &[u8], value: &Cell) -> Result<(), NoMemory>
     ensures { OnOk result (out.new ≡ out.old ++ text_of (valued word.now name.now value.now)) }
 {
     line_directive(out, 1, word)?;
     spaced_word(out, name)?;
     out.append(b" = ")?;
-    push_cell(alloc, out, value)
+    push_cell(out, value)
 }
 
-fn push_const(alloc: Global, out: &mut Text, constant: &Const) -> Result<(), NoMemory>
+fn push_const(out: &mut Text, constant: &Const) -> Result<(), NoMemory>
     ensures { OnOk result (out.new ≡ out.old ++ text_of (const_pieces constant.now)) }
 {
-    push_valued(alloc, out, b"const", constant.name.bytes(), &constant.value)?;
+    push_valued(out, b"const", constant.name.bytes(), &constant.value)?;
     out.append(b";")
 }
 
-fn push_consts(alloc: Global, out: &mut Text, consts: &[Const]) -> Result<(), NoMemory>
+fn push_consts(out: &mut Text, consts: &[Const]) -> Result<(), NoMemory>
     ensures { OnOk result (out.new ≡ out.old ++ text_of (flat_map const_pieces consts.now)) }
 {
     for constant in consts {
-        push_const(alloc, out, constant)?;
+        push_const(out, constant)?;
     }
     Ok(())
 }
 
 fn push_property(
-    alloc: Global,
     out: &mut Text,
     classes: &[Text],
     property: &Property,
 ) -> Result<(), NoMemory>
     ensures { OnOk result (out.new ≡ out.old ++ text_of (property_pieces (canonical_property classes.now property.now))) }
 {
-    push_valued(
-        alloc,
-        out,
-        b"property",
-        property.name.bytes(),
-        &property.initial,
-    )?;
+    push_valued(out, b"property", property.name.bytes(), &property.initial)?;
     push_stated(out, b"holds", classes, &property.stated)?;
     out.append(b";")
 }
 
 fn push_properties(
-    alloc: Global,
     out: &mut Text,
     classes: &[Text],
     properties: &[Property],
@@ -92,7 +78,7 @@ fn push_properties(
     ensures { OnOk result (out.new ≡ out.old ++ text_of (flat_map property_pieces (map (canonical_property classes.now) properties.now))) }
 {
     for property in properties {
-        push_property(alloc, out, classes, property)?;
+        push_property(out, classes, property)?;
     }
     Ok(())
 }
@@ -143,8 +129,8 @@ fn push_members(
 ) -> Result<(), NoMemory>
     ensures { OnOk result (out.new ≡ out.old ++ text_of (member_pieces (canonical_class classes.now class.now))) }
 {
-    push_consts(alloc, out, class.consts.as_slice())?;
-    push_properties(alloc, out, classes, class.props.as_slice())?;
+    push_consts(out, class.consts.as_slice())?;
+    push_properties(out, classes, class.props.as_slice())?;
     push_methods(alloc, out, classes, class.methods.as_slice())
 }
 

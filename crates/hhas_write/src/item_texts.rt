@@ -9,11 +9,9 @@ use crate::assertions::push_position;
 use crate::scope::Scope;
 use crate::turns::push_before;
 use hack_values::{NoMemory, Text};
-use std::alloc::Global;
 
 /// The positions of a body, each behind what stands before it, and what stands behind the last.
 pub(crate) fn push_items(
-    alloc: Global,
     out: &mut Text,
     depth: usize,
     scope: &Scope<'_>,
@@ -23,8 +21,8 @@ pub(crate) fn push_items(
     let positions = scope.positions();
     let mut inner = depth;
     for (place, position) in positions.iter().enumerate() {
-        push_before(alloc, out, &mut inner, scope, place)?;
-        push_position(alloc, out, inner, scope, position)?;
+        push_before(out, &mut inner, scope, place)?;
+        push_position(out, inner, scope, position)?;
     }
-    push_before(alloc, out, &mut inner, scope, positions.len())
+    push_before(out, &mut inner, scope, positions.len())
 }

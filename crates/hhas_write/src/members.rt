@@ -14,7 +14,6 @@ use crate::scope::Scope;
 use hack_values::{NoMemory, Text};
 use hhbc_ops::{inc_dec_name, query_mode_name, set_op_name};
 use hhbc_repo::{Base, Final, MemberKey, MemberSeq};
-use std::alloc::Global;
 
 fn line_local(out: &mut Text, depth: usize, word: &[u8], name: &[u8]) -> Result<(), NoMemory>
     ensures { OnOk result (out.new ≡ out.old ++ text_of (line depth (token.Word word.now) ∷ spaced (token.Local name.now) ∷ [])) }
@@ -24,37 +23,24 @@ fn line_local(out: &mut Text, depth: usize, word: &[u8], name: &[u8]) -> Result<
 }
 
 /// A word and a number.
-fn line_count(
-    alloc: Global,
-    out: &mut Text,
-    depth: usize,
-    word: &[u8],
-    number: u8,
-) -> Result<(), NoMemory>
+fn line_count(out: &mut Text, depth: usize, word: &[u8], number: u8) -> Result<(), NoMemory>
     ensures { OnOk result (out.new ≡ out.old ++ text_of (final_head depth word.now number)) }
 {
     line_word(out, depth, word)?;
-    spaced_count(alloc, out, u16::from(number))
+    spaced_count(out, u16::from(number))
 }
 
-fn push_base(
-    alloc: Global,
-    out: &mut Text,
-    depth: usize,
-    scope: &Scope<'_>,
-    base: &Base,
-) -> Result<(), NoMemory>
+fn push_base(out: &mut Text, depth: usize, scope: &Scope<'_>, base: &Base) -> Result<(), NoMemory>
     ensures { OnOk result (out.new ≡ out.old ++ text_of (base_pieces depth (canonical_base scope.now.body base.now))) }
 {
     match base {
         Base::Local(local) => line_local(out, depth, b"BaseL", scope.local(*local)),
-        Base::Stack(slot) => line_count(alloc, out, depth, b"BaseC", *slot),
+        Base::Stack(slot) => line_count(out, depth, b"BaseC", *slot),
         Base::This => line_word(out, depth, b"BaseH"),
     }
 }
 
 fn push_dim(
-    alloc: Global,
     out: &mut Text,
     depth: usize,
     scope: &Scope<'_>,
@@ -63,11 +49,10 @@ fn push_dim(
     ensures { OnOk result (out.new ≡ out.old ++ text_of (dim_pieces depth (canonical_key scope.now.body key.now))) }
 {
     line_word(out, depth, b"Dim")?;
-    push_key(alloc, out, scope, key)
+    push_key(out, scope, key)
 }
 
 fn push_dims(
-    alloc: Global,
     out: &mut Text,
     depth: usize,
     scope: &Scope<'_>,
@@ -76,14 +61,13 @@ fn push_dims(
     ensures { OnOk result (out.new ≡ out.old ++ text_of (flat_map (dim_pieces depth) (map (canonical_key scope.now.body) dims.now))) }
 {
     for key in dims {
-        push_dim(alloc, out, depth, scope, key)?;
+        push_dim(out, depth, scope, key)?;
     }
     Ok(())
 }
 
 /// The line of a final, of its word, its number and its key.
 fn plain_final(
-    alloc: Global,
     out: &mut Text,
     depth: usize,
     scope: &Scope<'_>,
@@ -93,13 +77,12 @@ fn plain_final(
 ) -> Result<(), NoMemory>
     ensures { OnOk result (out.new ≡ out.old ++ text_of (final_head depth word.now number ++ key_pieces (canonical_key scope.now.body key.now))) }
 {
-    line_count(alloc, out, depth, word, number)?;
-    push_key(alloc, out, scope, key)
+    line_count(out, depth, word, number)?;
+    push_key(out, scope, key)
 }
 
 /// A final with one more word before its key.
 fn worded_final(
-    alloc: Global,
     out: &mut Text,
     depth: usize,
     scope: &Scope<'_>,
@@ -110,44 +93,35 @@ fn worded_final(
 ) -> Result<(), NoMemory>
     ensures { OnOk result (out.new ≡ out.old ++ text_of (final_head depth word.now number ++ (spaced (token.Word mode.now) ∷ key_pieces (canonical_key scope.now.body key.now)))) }
 {
-    line_count(alloc, out, depth, word, number)?;
+    line_count(out, depth, word, number)?;
     spaced_word(out, mode)?;
-    push_key(alloc, out, scope, key)
+    push_key(out, scope, key)
 }
 
-fn push_final(
-    alloc: Global,
-    out: &mut Text,
-    depth: usize,
-    scope: &Scope<'_>,
-    last: &Final,
-) -> Result<(), NoMemory>
+fn push_final(out: &mut Text, depth: usize, scope: &Scope<'_>, last: &Final) -> Result<(), NoMemory>
     ensures { OnOk result (out.new ≡ out.old ++ text_of (final_pieces depth (canonical_final scope.now.body last.now))) }
 {
     match last {
         Final::Query(number, mode, key) => {
             let mode = query_mode_name(*mode).as_bytes();
-            worded_final(alloc, out, depth, scope, b"QueryM", *number, mode, key)
+            worded_final(out, depth, scope, b"QueryM", *number, mode, key)
         }
-        Final::Set(number, key) => plain_final(alloc, out, depth, scope, b"SetM", *number, key),
+        Final::Set(number, key) => plain_final(out, depth, scope, b"SetM", *number, key),
         Final::SetOp(number, op, key) => {
             let op = set_op_name(*op).as_bytes();
-            worded_final(alloc, out, depth, scope, b"SetOpM", *number, op, key)
+            worded_final(out, depth, scope, b"SetOpM", *number, op, key)
         }
         Final::IncDec(number, op, key) => {
             let op = inc_dec_name(*op).as_bytes();
-            worded_final(alloc, out, depth, scope, b"IncDecM", *number, op, key)
+            worded_final(out, depth, scope, b"IncDecM", *number, op, key)
         }
-        Final::Unset(number, key) => {
-            plain_final(alloc, out, depth, scope, b"UnsetM", *number, key)
-        }
+        Final::Unset(number, key) => { plain_final(out, depth, scope, b"UnsetM", *number, key) }
     }
 }
 
 /// A member sequence.
 #[tactic(auto, using(crate::proofs::Written::text_append))]
 pub(crate) fn push_member(
-    alloc: Global,
     out: &mut Text,
     depth: usize,
     scope: &Scope<'_>,
@@ -155,7 +129,7 @@ pub(crate) fn push_member(
 ) -> Result<(), NoMemory>
     ensures { OnOk result (out.new ≡ out.old ++ text_of (code_pieces depth (canonical_code scope.now.classes scope.now.body (forms.Member member.now)))) }
 {
-    push_base(alloc, out, depth, scope, &member.base)?;
-    push_dims(alloc, out, depth, scope, member.dims.as_slice())?;
-    push_final(alloc, out, depth, scope, &member.last)
+    push_base(out, depth, scope, &member.base)?;
+    push_dims(out, depth, scope, member.dims.as_slice())?;
+    push_final(out, depth, scope, &member.last)
 }

@@ -15,7 +15,6 @@ use crate::switches::{push_switch, push_target};
 use hack_values::{NoMemory, Text};
 use hhbc_ops::{Op, inc_dec_name, is_type_name, set_op_name};
 use hhbc_repo::Imm;
-use std::alloc::Global;
 
 fn is_text_switch(op: Op) -> bool
     ensures { result ≡ is_text_switch op }
@@ -23,16 +22,11 @@ fn is_text_switch(op: Op) -> bool
     matches!(op, Op::SSwitch)
 }
 
-fn spaced_target(
-    alloc: Global,
-    out: &mut Text,
-    scope: &Scope<'_>,
-    position: u32,
-) -> Result<(), NoMemory>
+fn spaced_target(out: &mut Text, scope: &Scope<'_>, position: u32) -> Result<(), NoMemory>
     ensures { OnOk result (out.new ≡ out.old ++ text_of (spaced (token.Word (label_name scope.now.body.positions position)) ∷ [])) }
 {
     out.append(b" ")?;
-    push_target(alloc, out, scope, position)
+    push_target(out, scope, position)
 }
 
 fn push_key_local(out: &mut Text, scope: &Scope<'_>, key: Option<u8>) -> Result<(), NoMemory>
@@ -59,7 +53,6 @@ fn push_iter_locals(
 
 /// An operand of an instruction.
 fn push_operand(
-    alloc: Global,
     out: &mut Text,
     scope: &Scope<'_>,
     op: Op,
@@ -68,26 +61,25 @@ fn push_operand(
     ensures { OnOk result (out.new ≡ out.old ++ text_of (operand_pieces op (canonical_operand scope.now.classes scope.now.body operand.now))) }
 {
     match operand {
-        Imm::Int(number) => spaced_int(alloc, out, *number),
-        Imm::Count(number) => spaced_count(alloc, out, *number),
+        Imm::Int(number) => spaced_int(out, *number),
+        Imm::Count(number) => spaced_count(out, *number),
         Imm::Str(text) => spaced_string(out, text.bytes()),
         Imm::Name(name) => spaced_word(out, name.bytes()),
         Imm::Local(local) => spaced_local(out, scope.local(*local)),
-        Imm::Iter(iterator) => spaced_count(alloc, out, u16::from(*iterator)),
-        Imm::Pos(position) => spaced_target(alloc, out, scope, *position),
+        Imm::Iter(iterator) => spaced_count(out, u16::from(*iterator)),
+        Imm::Pos(position) => spaced_target(out, scope, *position),
         Imm::Class(class) => spaced_word(out, scope.class(*class)),
         Imm::IncDec(change) => spaced_word(out, inc_dec_name(*change).as_bytes()),
         Imm::SetOp(set_op) => spaced_word(out, set_op_name(*set_op).as_bytes()),
         Imm::IsType(kind) => spaced_word(out, is_type_name(*kind).as_bytes()),
         Imm::Constraint(t) => spaced_type(out, scope.classes(), t),
-        Imm::Arms(arms) => push_switch(alloc, out, scope, is_text_switch(op), arms.as_slice()),
+        Imm::Arms(arms) => push_switch(out, scope, is_text_switch(op), arms.as_slice()),
         Imm::IterLocals(key, value) => push_iter_locals(out, scope, *key, *value),
     }
 }
 
 /// The operands of an instruction.
 pub(crate) fn push_operands(
-    alloc: Global,
     out: &mut Text,
     scope: &Scope<'_>,
     op: Op,
@@ -96,7 +88,7 @@ pub(crate) fn push_operands(
     ensures { OnOk result (out.new ≡ out.old ++ text_of (flat_map (operand_pieces op) (map (canonical_operand scope.now.classes scope.now.body) operands.now))) }
 {
     for operand in operands {
-        push_operand(alloc, out, scope, op, operand)?;
+        push_operand(out, scope, op, operand)?;
     }
     Ok(())
 }

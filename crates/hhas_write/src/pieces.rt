@@ -10,6 +10,7 @@ ghost use Rattle.hhbc_repo.specs.CanonicalText.{indent, line, spaced, tagged, ti
 ghost use Rattle.hhbc_repo.specs.WrittenTypes.{canonical_type};
 
 use hack_values::{NoMemory, Text};
+use itoa::Buffer;
 use std::alloc::Global;
 use type_lattice::{HType, push_type};
 
@@ -84,32 +85,30 @@ pub(crate) fn spaced_local(out: &mut Text, name: &[u8]) -> Result<(), NoMemory>
     push_local(out, name)
 }
 
-pub(crate) fn push_int(alloc: Global, out: &mut Text, number: i64) -> Result<(), NoMemory>
+pub(crate) fn push_int(out: &mut Text, number: i64) -> Result<(), NoMemory>
     ensures { OnOk result (out.new ≡ out.old ++ spelling (token.Integer number)) }
 {
-    let digits = format!(in alloc; "{number}")?;
-    out.append(digits.as_bytes())
+    out.append(Buffer::new().format(number).as_bytes())
 }
 
-pub(crate) fn spaced_int(alloc: Global, out: &mut Text, number: i64) -> Result<(), NoMemory>
+pub(crate) fn spaced_int(out: &mut Text, number: i64) -> Result<(), NoMemory>
     ensures { OnOk result (out.new ≡ out.old ++ text_of (spaced (token.Integer number) ∷ [])) }
 {
     out.append(b" ")?;
-    push_int(alloc, out, number)
+    push_int(out, number)
 }
 
-pub(crate) fn push_count(alloc: Global, out: &mut Text, number: u16) -> Result<(), NoMemory>
+pub(crate) fn push_count(out: &mut Text, number: u16) -> Result<(), NoMemory>
     ensures { OnOk result (out.new ≡ out.old ++ spelling (token.Integer (pos number))) }
 {
-    let digits = format!(in alloc; "{number}")?;
-    out.append(digits.as_bytes())
+    out.append(Buffer::new().format(number).as_bytes())
 }
 
-pub(crate) fn spaced_count(alloc: Global, out: &mut Text, number: u16) -> Result<(), NoMemory>
+pub(crate) fn spaced_count(out: &mut Text, number: u16) -> Result<(), NoMemory>
     ensures { OnOk result (out.new ≡ out.old ++ text_of (spaced (token.Integer (pos number)) ∷ [])) }
 {
     out.append(b" ")?;
-    push_count(alloc, out, number)
+    push_count(out, number)
 }
 
 fn hex_digit(digit: u8) -> u8
@@ -193,50 +192,34 @@ pub(crate) fn tagged_string(out: &mut Text, word: &[u8], bytes: &[u8]) -> Result
     push_string(out, bytes)
 }
 
-pub(crate) fn tagged_int(
-    alloc: Global,
-    out: &mut Text,
-    word: &[u8],
-    number: i64,
-) -> Result<(), NoMemory>
+pub(crate) fn tagged_int(out: &mut Text, word: &[u8], number: i64) -> Result<(), NoMemory>
     ensures { OnOk result (out.new ≡ out.old ++ text_of (tagged word.now (token.Integer number))) }
 {
     push_tag(out, word)?;
-    push_int(alloc, out, number)
+    push_int(out, number)
 }
 
-pub(crate) fn tagged_count(
-    alloc: Global,
-    out: &mut Text,
-    word: &[u8],
-    number: u16,
-) -> Result<(), NoMemory>
+pub(crate) fn tagged_count(out: &mut Text, word: &[u8], number: u16) -> Result<(), NoMemory>
     ensures { OnOk result (out.new ≡ out.old ++ text_of (tagged word.now (token.Integer (pos number)))) }
 {
     push_tag(out, word)?;
-    push_count(alloc, out, number)
+    push_count(out, number)
 }
 
 /// A label by its number.
-pub(crate) fn push_label(alloc: Global, out: &mut Text, label: usize) -> Result<(), NoMemory>
+pub(crate) fn push_label(out: &mut Text, label: usize) -> Result<(), NoMemory>
     ensures { OnOk result (out.new ≡ out.old ++ label_called label) }
 {
-    let digits = format!(in alloc; "{label}")?;
     out.append(b"L")?;
-    out.append(digits.as_bytes())
+    out.append(Buffer::new().format(label).as_bytes())
 }
 
 /// The line of a label.
-pub(crate) fn line_label(
-    alloc: Global,
-    out: &mut Text,
-    depth: usize,
-    label: usize,
-) -> Result<(), NoMemory>
+pub(crate) fn line_label(out: &mut Text, depth: usize, label: usize) -> Result<(), NoMemory>
     ensures { OnOk result (out.new ≡ out.old ++ text_of (line depth (token.Word (label_called label)) ∷ tight (token.Mark 58) ∷ [])) }
 {
     push_line(out, depth)?;
-    push_label(alloc, out, label)?;
+    push_label(out, label)?;
     out.append(b":")
 }
 

@@ -11,47 +11,36 @@ use crate::pieces::{push_label, push_string};
 use crate::scope::Scope;
 use hack_values::{NoMemory, Text};
 use hhbc_repo::Arm;
-use std::alloc::Global;
 
 /// The label of a position.
-pub(crate) fn push_target(
-    alloc: Global,
-    out: &mut Text,
-    scope: &Scope<'_>,
-    position: u32,
-) -> Result<(), NoMemory>
+pub(crate) fn push_target(out: &mut Text, scope: &Scope<'_>, position: u32) -> Result<(), NoMemory>
     ensures { OnOk result (out.new ≡ out.old ++ label_name scope.now.body.positions position) }
 {
     match scope.label(position as usize) {
-        Some(label) => push_label(alloc, out, label),
+        Some(label) => push_label(out, label),
         None => Ok(()),
     }
 }
 
-fn push_more_targets(
-    alloc: Global,
-    out: &mut Text,
-    scope: &Scope<'_>,
-    arms: &[Arm],
-) -> Result<(), NoMemory>
+fn push_more_targets(out: &mut Text, scope: &Scope<'_>, arms: &[Arm]) -> Result<(), NoMemory>
     ensures { OnOk result (out.new ≡ out.old ++ text_of (map label_piece (map (canonical_arm scope.now.body) arms.now))) }
 {
     for arm in arms {
         out.append(b" ")?;
-        push_target(alloc, out, scope, arm.target)?;
+        push_target(out, scope, arm.target)?;
     }
     Ok(())
 }
 
 /// The arms of a switch on ints.
-fn push_arms(alloc: Global, out: &mut Text, scope: &Scope<'_>, arms: &[Arm]) -> Result<(), NoMemory>
+fn push_arms(out: &mut Text, scope: &Scope<'_>, arms: &[Arm]) -> Result<(), NoMemory>
     ensures { OnOk result (out.new ≡ out.old ++ text_of (arms_pieces (map (canonical_arm scope.now.body) arms.now))) }
 {
     match arms {
         [] => Ok(()),
         [first, more @ ..] => {
-            push_target(alloc, out, scope, first.target)?;
-            push_more_targets(alloc, out, scope, more)
+            push_target(out, scope, first.target)?;
+            push_more_targets(out, scope, more)
         }
     }
 }
@@ -66,54 +55,38 @@ fn push_arm_text(out: &mut Text, text: &Option<Text>) -> Result<(), NoMemory>
     }
 }
 
-fn push_text_arm(
-    alloc: Global,
-    out: &mut Text,
-    scope: &Scope<'_>,
-    arm: &Arm,
-) -> Result<(), NoMemory>
+fn push_text_arm(out: &mut Text, scope: &Scope<'_>, arm: &Arm) -> Result<(), NoMemory>
     ensures { OnOk result (out.new ≡ out.old ++ (spelling (arm_token arm.now.text) ++ 58 ∷ label_name scope.now.body.positions arm.now.target)) }
 {
     push_arm_text(out, &arm.text)?;
     out.append(b":")?;
-    push_target(alloc, out, scope, arm.target)
+    push_target(out, scope, arm.target)
 }
 
-fn push_more_text_arms(
-    alloc: Global,
-    out: &mut Text,
-    scope: &Scope<'_>,
-    arms: &[Arm],
-) -> Result<(), NoMemory>
+fn push_more_text_arms(out: &mut Text, scope: &Scope<'_>, arms: &[Arm]) -> Result<(), NoMemory>
     ensures { OnOk result (out.new ≡ out.old ++ text_of (flat_map more_arm (map (canonical_arm scope.now.body) arms.now))) }
 {
     for arm in arms {
         out.append(b", ")?;
-        push_text_arm(alloc, out, scope, arm)?;
+        push_text_arm(out, scope, arm)?;
     }
     Ok(())
 }
 
 /// The arms of a switch on strings.
-fn push_text_arms(
-    alloc: Global,
-    out: &mut Text,
-    scope: &Scope<'_>,
-    arms: &[Arm],
-) -> Result<(), NoMemory>
+fn push_text_arms(out: &mut Text, scope: &Scope<'_>, arms: &[Arm]) -> Result<(), NoMemory>
     ensures { OnOk result (out.new ≡ out.old ++ text_of (text_arms_pieces (map (canonical_arm scope.now.body) arms.now))) }
 {
     match arms {
         [] => Ok(()),
         [first, more @ ..] => {
-            push_text_arm(alloc, out, scope, first)?;
-            push_more_text_arms(alloc, out, scope, more)
+            push_text_arm(out, scope, first)?;
+            push_more_text_arms(out, scope, more)
         }
     }
 }
 
 fn push_inner_arms(
-    alloc: Global,
     out: &mut Text,
     scope: &Scope<'_>,
     by_text: bool,
@@ -122,16 +95,15 @@ fn push_inner_arms(
     ensures { OnOk result (out.new ≡ out.old ++ text_of (inner_arms by_text (map (canonical_arm scope.now.body) arms.now))) }
 {
     if by_text {
-        push_text_arms(alloc, out, scope, arms)
+        push_text_arms(out, scope, arms)
     } else {
-        push_arms(alloc, out, scope, arms)
+        push_arms(out, scope, arms)
     }
 }
 
 /// The arms of a switch in their brackets.
 #[tactic(auto, using(crate::proofs::Written::text_append))]
 pub(crate) fn push_switch(
-    alloc: Global,
     out: &mut Text,
     scope: &Scope<'_>,
     by_text: bool,
@@ -140,6 +112,6 @@ pub(crate) fn push_switch(
     ensures { OnOk result (out.new ≡ out.old ++ text_of (switch_pieces by_text (map (canonical_arm scope.now.body) arms.now))) }
 {
     out.append(b" <")?;
-    push_inner_arms(alloc, out, scope, by_text, arms)?;
+    push_inner_arms(out, scope, by_text, arms)?;
     out.append(b">")
 }

@@ -8,7 +8,6 @@ ghost use Rattle.hhas_write.specs.Items.{Writes, catch_text, try_text};
 use crate::pieces::{line_close, line_directive, line_label, spaced_directive, spaced_open};
 use crate::scope::Scope;
 use hack_values::{NoMemory, Text};
-use std::alloc::Global;
 
 /// Closes catch bodies.
 #[tactic(auto, using(crate::proofs::Turning::writes_none))]
@@ -64,16 +63,11 @@ fn push_tries(out: &mut Text, depth: &mut usize, count: usize) -> Result<(), NoM
 }
 
 #[tactic(auto, using(crate::proofs::Turning::writes_none, crate::proofs::Turning::label_written))]
-fn push_label_line(
-    alloc: Global,
-    out: &mut Text,
-    depth: usize,
-    label: Option<usize>,
-) -> Result<(), NoMemory>
+fn push_label_line(out: &mut Text, depth: usize, label: Option<usize>) -> Result<(), NoMemory>
     ensures { OnOk result (Writes (label_item label) out.old depth out.new depth) }
 {
     match label {
-        Some(label) => line_label(alloc, out, depth, label),
+        Some(label) => line_label(out, depth, label),
         None => Ok(()),
     }
 }
@@ -81,7 +75,6 @@ fn push_label_line(
 /// What stands before a position, or behind the last.
 #[tactic(auto, using(crate::proofs::Turning::before_written))]
 pub(crate) fn push_before(
-    alloc: Global,
     out: &mut Text,
     depth: &mut usize,
     scope: &Scope<'_>,
@@ -93,5 +86,5 @@ pub(crate) fn push_before(
     push_ends(out, depth, scope.ends(position))?;
     push_catches(out, *depth, scope.catches(position))?;
     push_tries(out, depth, scope.tries(position))?;
-    push_label_line(alloc, out, *depth, scope.label(position))
+    push_label_line(out, *depth, scope.label(position))
 }

@@ -1,6 +1,6 @@
 //! What texts say: types, and operands with their escapes.
 
-use hhas_read::{Reader, is_reserved, read_parts};
+use hhas_read::{is_reserved, read_parts};
 use hhbc_ops::Op;
 use hhbc_repo::{CodeParts, ImmParts, InstrParts, ItemParts};
 use std::alloc::Global;
@@ -57,29 +57,54 @@ const WITH_CLASSES: HType = HType {
     ..HType::NEVER
 };
 
-/// Types, and the classes that they name, numbered in the order of the text.
+/// Texts of a function that states a type, the type, and the classes that it names, numbered in the order of the text.
 const TYPES: &[(&[u8], HType, &[&[u8]])] = &[
-    (b"Never", HType::NEVER, &[]),
-    (b"Cell", HType::CELL, &[]),
-    (b"Uninit", HType::UNINIT, &[]),
-    (b"Null|Bool|Int=-5|Str=\"ab\"", SCALARS, &[]),
-    (b"Uninit|Obj<=C|Vec|Dict|Keyset", WITHOUT_BRACKETS, &[b"C"]),
     (
-        b"Obj=C|Vec<Null|Int|Obj=D|Vec>|Dict<Int|Str,Bool|Obj<=C>|Keyset<Never>",
+        b".profile 1; .function f() .returns Never {}",
+        HType::NEVER,
+        &[],
+    ),
+    (
+        b".profile 1; .function f() .returns Cell {}",
+        HType::CELL,
+        &[],
+    ),
+    (
+        b".profile 1; .function f() .returns Uninit {}",
+        HType::UNINIT,
+        &[],
+    ),
+    (
+        b".profile 1; .function f() .returns Null|Bool|Int=-5|Str=\"ab\" {}",
+        SCALARS,
+        &[],
+    ),
+    (
+        b".profile 1; .function f() .returns Uninit|Obj<=C|Vec|Dict|Keyset {}",
+        WITHOUT_BRACKETS,
+        &[b"C"],
+    ),
+    (
+        b".profile 1; .function f() .returns Obj=C|Vec<Null|Int|Obj=D|Vec>|Dict<Int|Str,Bool|Obj<=C>|Keyset<Never> {}",
         WITH_CLASSES,
         &[b"C", b"D", b"C"],
     ),
 ];
 
 fn stands_for(rt: &impl Abort, alloc: Global, text: &[u8], wanted: HType, classes: &[&[u8]]) {
-    assert!(rt; text.len() < 100);
-    let mut reader = Reader::new(text);
-    let Ok(parts) = reader.type_parts(alloc) else {
+    assert!(rt; text.len() < 200);
+    let Ok(parts) = read_parts(alloc, text) else {
         panic!(rt; "not read");
     };
-    assert_eq!(rt; parts.t, wanted);
-    assert_eq!(rt; parts.classes.as_slice().len(), classes.len());
-    for (class, name) in parts.classes.as_slice().iter().zip(classes) {
+    let [function] = parts.functions.as_slice() else {
+        panic!(rt; "not one function");
+    };
+    let Some(stated) = &function.stated else {
+        panic!(rt; "nothing stated");
+    };
+    assert_eq!(rt; stated.t, wanted);
+    assert_eq!(rt; stated.classes.as_slice().len(), classes.len());
+    for (class, name) in stated.classes.as_slice().iter().zip(classes) {
         assert!(rt; class.bytes() == *name);
     }
 }

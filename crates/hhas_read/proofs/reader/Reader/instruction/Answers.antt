@@ -1,13 +1,8 @@
-use Rattle.std.proofs.Common.{◌∙◌, [], ◌∷◌, sym, ap, subst, Err}
-use Rattle.hhas_lex.specs.Tokens.{Word}
-use Rattle.hhbc_ops.specs.Ops.{kinds_of, op_name}
-use Rattle.hhbc_repo.specs.CodeSyntax.{AnInstruction, Operands}
-use Rattle.hhas_read.specs.Kinds.{constraint_last}
-use Rattle.hhas_read.specs.Reading.{Past, Reads, Taken, next}
+use Rattle.std.proofs.Common.{◌∙◌, sym}
+use Rattle.hhbc_ops.specs.Ops.{op_name}
+use Rattle.hhas_read.specs.Reading.{next}
 use Rattle.hhas_read.specs.Written.{ends_type}
-use Rattle.hhas_read.proofs.CodeForms.{instruction_stuck, named_resumes, with_operands}
-use Rattle.hhas_read.proofs.OperandRuns.{kinds_last}
-use Rattle.hhas_read.proofs.Resuming.{stop_lifts, taken_lifts}
+use Rattle.hhas_read.proofs.CodeForms.{instruction_stuck}
 use Rattle.hhas_read.proofs.Said.{not_word, same_word}
 use Rattle.hhas_read.proofs.reader.Reader.instruction.Goals as goal
 
@@ -15,23 +10,6 @@ pub returns-in_default : goal.returns-in_default
 returns-in_default c =
     instruction_stuck ends_type c.args.self.now (λ op e. not_word c.peek.result (next c.args.self.now) c.peek.ensures c.in_default.not-Word (op_name op) e)
 
-pub returns-in_default-op_named : goal.returns-in_default-op_named
-returns-in_default-op_named c =
-    instruction_stuck ends_type c.args.self.now (λ op e. c.in_default-op_named.ensures.only op (same_word (op_name op) c.in-Word.name.now (sym e ∙ c.in-Word.ensures)))
-
-pub operands-requires : goal.operands-requires
-operands-requires c = ap constraint_last c.immediates.ensures ∙ kinds_last c.in-Some.op
-
-pub returns-in-Ok : goal.returns-in-Ok
-returns-in-Ok c =
-    let old = c.args.self.now in let mid = c.skip.new.self in let op = c.in-Some.op in
-    taken_lifts ends_type AnInstruction (Operands (kinds_of op)) old mid c.operands.new.self (Word (op_name op) ∷ []) (with_operands op) c.in-Ok.imms
-    (named_resumes ends_type op mid.tokens) (subst (λ t. Past (t ∷ []) old mid) (c.in-Word.ensures ∙ ap Word (sym c.in-Some.ensures.only)) c.skip.ensures)
-    (subst (λ ks. Taken ends_type (Operands ks) mid c.operands.new.self c.in-Ok.imms) c.immediates.ensures c.in-Ok.ensures)
-
-pub returns-in-Err : goal.returns-in-Err
-returns-in-Err c =
-    let old = c.args.self.now in let mid = c.skip.new.self in let op = c.in-Some.op in
-    stop_lifts ends_type AnInstruction (Operands (kinds_of op)) old mid c.operands.new.self (Word (op_name op) ∷ []) (with_operands op) c.in-Err.stop
-    (named_resumes ends_type op mid.tokens) (subst (λ t. Past (t ∷ []) old mid) (c.in-Word.ensures ∙ ap Word (sym c.in-Some.ensures.only)) c.skip.ensures)
-    (subst (λ ks. Reads ends_type (Operands ks) mid (Err c.in-Err.stop) c.operands.new.self) c.immediates.ensures c.in-Err.ensures)
+pub returns-in-None : goal.returns-in-None
+returns-in-None c =
+    instruction_stuck ends_type c.args.self.now (λ op e. c.in-None.ensures.only op (same_word (op_name op) c.in-Word.name.now (sym e ∙ c.in-Word.ensures)))

@@ -4,6 +4,7 @@ use Rattle.hhas_read.specs.Reading.{Reads, any}
 use Rattle.hhas_read.proofs.ItemSteps.{catch_stops, catch_taken, code_stops, end_stops, end_taken, known, label_stops, label_taken, list_stops, list_taken, no_item, position_stops, position_taken, try_stops, try_taken}
 use Rattle.hhas_read.proofs.ItemTurns.{Inside, WholeList, outside}
 use Rattle.hhas_read.proofs.Nesting.{Block, Closes}
+use Rattle.hhas_read.proofs.Reserved.{named_reserved, unnamed_reserved}
 use Rattle.hhas_read.proofs.reader.Reader.items_to_end.Goals as goal
 
 pub items-init : goal.items-init
@@ -14,16 +15,30 @@ items-init c =
 
 pub returns-in_err-position : goal.returns-in_err-position
 returns-in_err-position c =
-    let start = c.args.self.now in let old = c.items.self in let new = c.position.new.self in let e = c.in_err-position.field-0.0 in
+    let start = c.args.self.now in let old = c.items.self in let new = c.named_position.new.self in let e = c.in_err-position.field-0.0 in
     let is : c.from_residual.result ≡ Err e = search rules in
     subst (λ r. Reads any WholeList start r new) (sym is)
     (position_stops start old c.items.opened c.items.items c.items.needs_code new c.in-Word.name.now e c.items.invariant c.in-Word.ensures
-    (sym c.is_reserved.ensures ∙ c.if-is_reserved.true) c.in_err-position.ensures)
+    (named_reserved c.in-Word.name.now c.in-Some.op c.in-Some.ensures.only) c.in_err-position.ensures)
 
-pub items-preserved-then-is_reserved : goal.items-preserved-then-is_reserved
-items-preserved-then-is_reserved c =
-    position_taken c.args.self.now c.items.self c.items.opened c.items.items c.items.needs_code c.position.new.self c.push.new.self c.in-Word.name.now c.in_ok-position.position
-    c.items.invariant c.in-Word.ensures (sym c.is_reserved.ensures ∙ c.if-is_reserved.true) c.in_ok-position.ensures c.in_ok-push.ensures.ok
+pub items-preserved-in-Some : goal.items-preserved-in-Some
+items-preserved-in-Some c =
+    position_taken c.args.self.now c.items.self c.items.opened c.items.items c.items.needs_code c.named_position.new.self c.push.new.self c.in-Word.name.now c.in_ok-position.position
+    c.items.invariant c.in-Word.ensures (named_reserved c.in-Word.name.now c.in-Some.op c.in-Some.ensures.only) c.in_ok-position.ensures c.in_ok-push.ensures.ok
+
+pub returns-in_err-position-2 : goal.returns-in_err-position-2
+returns-in_err-position-2 c =
+    let start = c.args.self.now in let old = c.items.self in let new = c.position.new.self in let e = c.in_err-position-2.field-0.0 in
+    let is : c.from_residual-in_err-position-2.result ≡ Err e = search rules in
+    subst (λ r. Reads any WholeList start r new) (sym is)
+    (position_stops start old c.items.opened c.items.items c.items.needs_code new c.in-Word.name.now e c.items.invariant c.in-Word.ensures
+    (unnamed_reserved c.in-Word.name.now c.in_default-op_named.ensures.only ∙ sym c.is_other_name.ensures ∙ c.if-is_other_name.true) c.in_err-position-2.ensures)
+
+pub items-preserved-then-is_other_name : goal.items-preserved-then-is_other_name
+items-preserved-then-is_other_name c =
+    position_taken c.args.self.now c.items.self c.items.opened c.items.items c.items.needs_code c.position.new.self c.push-then-is_other_name.new.self c.in-Word.name.now c.in_ok-position-2.position
+    c.items.invariant c.in-Word.ensures
+    (unnamed_reserved c.in-Word.name.now c.in_default-op_named.ensures.only ∙ sym c.is_other_name.ensures ∙ c.if-is_other_name.true) c.in_ok-position-2.ensures c.in_ok-push-2.ensures.ok
 
 pub returns-in_err-label : goal.returns-in_err-label
 returns-in_err-label c =
@@ -31,12 +46,13 @@ returns-in_err-label c =
     let is : c.from_residual-in_err-label.result ≡ Err e = search rules in
     subst (λ r. Reads any WholeList start r new) (sym is)
     (label_stops start old c.items.opened c.items.items c.items.needs_code new c.in-Word.name.now e c.items.invariant c.in-Word.ensures
-    (sym c.is_reserved.ensures ∙ c.if-is_reserved.false) c.in_err-label.ensures)
+    (unnamed_reserved c.in-Word.name.now c.in_default-op_named.ensures.only ∙ sym c.is_other_name.ensures ∙ c.if-is_other_name.false) c.in_err-label.ensures)
 
 pub items-preserved-in-Word : goal.items-preserved-in-Word
 items-preserved-in-Word c =
     label_taken c.args.self.now c.items.self c.items.opened c.items.items c.items.needs_code c.label_to.new.self c.push-in-Word.new.self c.in-Word.name.now c.in_ok-label.label
-    c.items.invariant c.in-Word.ensures (sym c.is_reserved.ensures ∙ c.if-is_reserved.false) c.in_ok-label.ensures c.in_ok-push-2.ensures.ok
+    c.items.invariant c.in-Word.ensures
+    (unnamed_reserved c.in-Word.name.now c.in_default-op_named.ensures.only ∙ sym c.is_other_name.ensures ∙ c.if-is_other_name.false) c.in_ok-label.ensures c.in_ok-push-3.ensures.ok
 
 pub returns-in_err-opening : goal.returns-in_err-opening
 returns-in_err-opening c =
@@ -48,7 +64,7 @@ returns-in_err-opening c =
 pub items-preserved-then-is_directive : goal.items-preserved-then-is_directive
 items-preserved-then-is_directive c =
     try_taken c.args.self.now c.items.self c.items.opened c.items.items c.items.needs_code c.opening.new.self c.push-then-is_directive-2.new.self tt
-    c.push-then-is_directive.new.self c.items.invariant c.if-is_directive.ensures c.in_ok-opening.ensures c.in_ok-push-3.ensures c.in_ok-push-4.ensures.ok
+    c.push-then-is_directive.new.self c.items.invariant c.if-is_directive.ensures c.in_ok-opening.ensures c.in_ok-push-4.ensures c.in_ok-push-5.ensures.ok
 
 pub returns-then-needs_code : goal.returns-then-needs_code
 returns-then-needs_code c =
