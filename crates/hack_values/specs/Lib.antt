@@ -1,6 +1,7 @@
 pub mod Keys
 pub mod Val
 pub mod Code
+pub mod Table
 pub mod View
 pub mod Falls
 pub mod Known

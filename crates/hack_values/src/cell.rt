@@ -3,10 +3,9 @@ ghost use Rattle.std.specs.Map.{keys_of};
 ghost use Rattle.hack_values.specs.Keys.{distinct};
 ghost use Rattle.hack_values.specs.View.{cells_of};
 
-use crate::key::copy_keys;
+use crate::key_table::KeyTable;
 use crate::known::Known;
-use crate::{Key, KeysetVal, NoMemory, Text};
-use indexmap::IndexSet;
+use crate::{KeysetVal, NoMemory, Text};
 use std::alloc::Global;
 use std::marker::Model;
 
@@ -68,7 +67,7 @@ impl Model for VecVal {
 #[cycle(cell)]
 #[derive(Debug, Drop)]
 pub struct DictVal {
-    pub(crate) keys: IndexSet<Key>,
+    pub(crate) keys: KeyTable,
     pub(crate) vals: Vec<Cell>,
     pub(crate) known: Option<Known>,
 }
@@ -90,9 +89,9 @@ impl Model for DictVal {
     ghost use Rattle.hack_values.specs.Keys.{distinct};
     ghost use Rattle.hack_values.specs.Known.{IsDictKnown};
 
-    ghost view = { λ a. zip a.keys.keys (map val_of a.vals.items) };
+    ghost view = { λ a. zip a.keys (map val_of a.vals.items) };
 
-    ghost invariant = { λ a. (length a.vals.items ≡ length a.keys.keys) × (distinct a.keys.keys ≡ true) × ForSome a.known (IsDictKnown (zip a.keys.keys (map val_of a.vals.items))) };
+    ghost invariant = { λ a. (length a.vals.items ≡ length a.keys) × (distinct a.keys ≡ true) × ForSome a.known (IsDictKnown (zip a.keys (map val_of a.vals.items))) };
 
     ghost use Rattle.hack_values.specs.Val.{entry_depths};
 
@@ -101,7 +100,7 @@ impl Model for DictVal {
     ghost use Rattle.std.proofs.Common.{arith};
     ghost use Rattle.hack_values.specs.Falls.{most_le-entries};
 
-    ghost size_decreases = { λ a h. omega (arith, most_le-entries a.keys.keys a.vals.items h.0) };
+    ghost size_decreases = { λ a h. omega (arith, most_le-entries a.keys a.vals.items h.0) };
 }
 
 /// What a local or a place of the stack holds.
@@ -187,7 +186,7 @@ impl DictVal {
         ensures { result ≡ [] }
     {
         DictVal {
-            keys: IndexSet::new(alloc),
+            keys: KeyTable::new(alloc),
             vals: Vec::new(alloc),
             known: Some(Known::empty()),
         }
@@ -208,7 +207,7 @@ impl DictVal {
     fn copy(&self, alloc: Global) -> Result<DictVal, NoMemory>
         ensures { IfOk result (λ d. d ≡ self.now) }
     {
-        let keys = copy_keys(&self.keys)?;
+        let keys = self.keys.copy()?;
         let vals = copy_cells(alloc, self.vals.as_slice())?;
         Ok(DictVal {
             keys,

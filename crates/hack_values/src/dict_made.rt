@@ -6,10 +6,10 @@ ghost use Rattle.hack_values.specs.Val.{from_pairs};
 ghost use Rattle.hack_values.specs.Val.Val.{dict};
 ghost use Rattle.hack_values.specs.View.{pairs_of, vals_of};
 
+use crate::key_table::KeyTable;
 use crate::known::Known;
 use crate::value_fault::{MAX_DEPTH, MAX_WEIGHT};
 use crate::{Cell, DictVal, Key, NoMemory, ValueFault};
-use indexmap::IndexSet;
 use indexmap::set::IntoIter;
 use std::alloc::Global;
 
@@ -47,7 +47,7 @@ impl DictVal {
         ensures { IfOk result (λ made. made ≡ []) }
     {
         Ok(DictVal {
-            keys: IndexSet::with_capacity(alloc, count)?,
+            keys: KeyTable::with_room(alloc, count)?,
             vals: Vec::with_capacity(alloc, count)?,
             known: Some(Known::empty()),
         })
@@ -59,6 +59,6 @@ impl DictVal {
         ensures keys { result.0 ≡ keys_of self }
         ensures values { vals_of result.1.items ≡ values_of self }
     {
-        (self.keys.into_iter(), self.vals)
+        (self.keys.into_keys(), self.vals)
     }
 }

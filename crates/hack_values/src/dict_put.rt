@@ -8,7 +8,6 @@ ghost use Rattle.hack_values.specs.Val.{from_pairs};
 ghost use Rattle.hack_values.specs.Val.Val.{dict};
 ghost use Rattle.hack_values.specs.View.{val_of};
 
-use crate::key::push_key;
 use crate::known::Known;
 use crate::value_fault::{MAX_DEPTH, MAX_WEIGHT};
 use crate::{Cell, DictVal, Key, NoMemory, ValueFault};
@@ -134,7 +133,7 @@ impl DictVal {
         ensures ok { OnOk result (self.new ≡ self.old ++ (key, val_of value) ∷ []) }
         ensures unchanged { OnErr result (self.new ≡ self.old) }
     {
-        push_key(&mut self.keys, key)?;
+        self.keys.add_key(key)?;
         let Ok(()) = self.vals.push(value) else {
             self.keys.pop();
             return Err(NoMemory);

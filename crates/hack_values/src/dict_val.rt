@@ -10,7 +10,6 @@ ghost use Rattle.hack_values.specs.Known.{IsDictKnown};
 ghost use Rattle.hack_values.specs.Val.{entry_weights, entry_depths};
 ghost use Rattle.hack_values.specs.View.{val_of, item_of};
 
-use crate::key::{place_of, take_key};
 use crate::known::{Depth, Known};
 use crate::{Cell, DictVal, Key};
 
@@ -35,7 +34,7 @@ impl DictVal {
         ensures place { result ≡ place key.now (keys_of self.now) }
         ensures there { IsSome result ↔ (has_key key.now (keys_of self.now) ≡ true) }
     {
-        place_of(&self.keys, key)
+        self.keys.find(key)
     }
 
     /// The value at a place, for writing; None where the place isn't below the length.
@@ -106,7 +105,7 @@ impl DictVal {
             Some(at) => {
                 let known = self.known_without(at);
                 let _ = self.vals.remove(at);
-                let _ = take_key(&mut self.keys, at);
+                let _ = self.keys.take_at(at);
                 self.known = known;
                 true
             }

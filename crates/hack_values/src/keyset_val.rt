@@ -4,10 +4,10 @@ ghost use Rattle.hack_values.specs.Limits.{IsTooLarge, IsTooDeep};
 ghost use Rattle.hack_values.specs.Val.{depth};
 ghost use Rattle.hack_values.specs.Val.Val.{keyset};
 
-use crate::key::{copy_keys, keys_weight_of, place_of, push_key, take_key};
+use crate::key::keys_weight_of;
+use crate::key_table::KeyTable;
 use crate::value_fault::MAX_WEIGHT;
 use crate::{Key, NoMemory, ValueFault};
-use indexmap::IndexSet;
 use indexmap::set::IntoIter;
 use std::alloc::Global;
 use std::marker::Model;
@@ -15,7 +15,7 @@ use std::marker::Model;
 /// Distinct keys, in order.
 #[derive(Debug, Drop)]
 pub struct KeysetVal {
-    items: IndexSet<Key>,
+    items: KeyTable,
     weight: u32,
 }
 
@@ -31,9 +31,9 @@ impl Model for KeysetVal {
 
     ghost use Rattle.hack_values.specs.Keys.{capped, distinct, keys_weight};
 
-    ghost view = { λ a. a.items.keys };
+    ghost view = { λ a. a.items };
 
-    ghost invariant = { λ a. (distinct a.items.keys ≡ true) × (a.weight ≡ capped (1 + keys_weight a.items.keys)) };
+    ghost invariant = { λ a. (distinct a.items ≡ true) × (a.weight ≡ capped (1 + keys_weight a.items)) };
 }
 
 impl KeysetVal {
@@ -42,7 +42,7 @@ impl KeysetVal {
         ensures { result ≡ [] }
     {
         KeysetVal {
-            items: IndexSet::new(alloc),
+            items: KeyTable::new(alloc),
             weight: 1,
         }
     }
@@ -52,7 +52,7 @@ impl KeysetVal {
         ensures { IfOk result (λ made. made ≡ []) }
     {
         Ok(KeysetVal {
-            items: IndexSet::with_capacity(alloc, count)?,
+            items: KeyTable::with_room(alloc, count)?,
             weight: 1,
         })
     }
@@ -61,7 +61,7 @@ impl KeysetVal {
     pub fn into_keys(self) -> IntoIter<Key>
         ensures { result ≡ self }
     {
-        self.items.into_iter()
+        self.items.into_keys()
     }
 
     /// The weight as a cell.
@@ -91,7 +91,7 @@ impl KeysetVal {
         ensures variant { IsSome result ↔ (at < length self.now) }
         ensures value { IfSome result (λ k. slice_get self.now at ≡ Some k.now) }
     {
-        self.items.get_index(at)
+        self.items.as_slice().get(at)
     }
 
     /// Where the key stands; None where it isn't there.
@@ -100,7 +100,7 @@ impl KeysetVal {
         ensures place { result ≡ place key.now self.now }
         ensures there { IsSome result ↔ (has_key key.now self.now ≡ true) }
     {
-        place_of(&self.items, key)
+        self.items.find(key)
     }
 
     /// Takes the key out and closes up; false where it isn't there.
@@ -109,9 +109,9 @@ impl KeysetVal {
         ensures there { IsTrue result ↔ IsSome (place key.now self.old) }
         ensures rest { self.new ≡ remove_key key.now self.old }
     {
-        match place_of(&self.items, key) {
+        match self.items.find(key) {
             Some(at) => {
-                if let Some(gone) = take_key(&mut self.items, at) {
+                if let Some(gone) = self.items.take_at(at) {
                     self.weight = weight_without(self.items.as_slice(), self.weight, &gone);
                 }
                 true
@@ -136,7 +136,7 @@ impl KeysetVal {
                 if weight > MAX_WEIGHT {
                     return Err(ValueFault::TooLarge);
                 }
-                push_key(&mut self.items, key)?;
+                self.items.add_key(key)?;
                 self.weight = weight;
                 Ok(())
             }
@@ -154,7 +154,7 @@ impl KeysetVal {
             return Ok(());
         }
         let weight = self.weight.saturating_add(key.weight());
-        push_key(&mut self.items, key)?;
+        self.items.add_key(key)?;
         self.weight = weight;
         Ok(())
     }
@@ -170,7 +170,7 @@ impl KeysetVal {
     pub(crate) fn copy(&self) -> Result<KeysetVal, NoMemory>
         ensures { IfOk result (λ k. k ≡ self.now) }
     {
-        let items = copy_keys(&self.items)?;
+        let items = self.items.copy()?;
         Ok(KeysetVal {
             items,
             weight: self.weight,

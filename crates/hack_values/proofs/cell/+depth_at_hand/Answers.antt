@@ -35,14 +35,14 @@ VecVal::depth_at_hand-returns-in-Some-2 t c =
 pub DictVal::depth_at_hand-returns-in-None : goal.DictVal::depth_at_hand-returns-in-None
 DictVal::depth_at_hand-returns-in-None t c =
     let k = c.in-Some.known in
-    let es = zip c.self.inside.keys.keys (vals_of c.self.inside.vals.items) in
+    let es = zip c.self.inside.keys (vals_of c.self.inside.vals.items) in
     let all = ap entry_depths (without-none k.but es c.in-None.is) in
     rw (← c.self.view_is) (depth_of (1 + entry_depths (without k.but es)) (1 + entry_depths es) k.depth (omega (arith, all)) (c.self.invariant.2 k c.in-Some.is).deep)
 
 pub DictVal::depth_at_hand-returns-in-Some-but : goal.DictVal::depth_at_hand-returns-in-Some-but
 DictVal::depth_at_hand-returns-in-Some-but t c =
     let k = c.in-Some.known in
-    let ks = c.self.inside.keys.keys in
+    let ks = c.self.inside.keys in
     let cs = c.self.inside.vals.items in
     let es = zip ks (vals_of cs) in
     let value = c.index.result.now in
@@ -54,7 +54,7 @@ DictVal::depth_at_hand-returns-in-Some-but t c =
 pub DictVal::depth_at_hand-returns-in-Some-2 : goal.DictVal::depth_at_hand-returns-in-Some-2
 DictVal::depth_at_hand-returns-in-Some-2 t c =
     let k = c.in-Some.known in
-    let ks = c.self.inside.keys.keys in
+    let ks = c.self.inside.keys in
     let cs = c.self.inside.vals.items in
     let es = zip ks (vals_of cs) in
     let all = ap entry_depths (without-past k.but es c.in-Some-but.at c.in-Some-but.is (omega (arith, length-entries ks cs c.self.invariant.0))) in

@@ -8,7 +8,7 @@ use Rattle.hack_values.proofs.Knowns.{without-none, without-past, without-beyond
 use Rattle.hack_values.proofs.cell.+weight.Goals as goal
 
 pub DictVal::weight-returns : goal.DictVal::weight-returns
-DictVal::weight-returns t c = rw (← c.self.view_is, entry-weights c.self.inside.keys.keys c.self.inside.vals.items c.self.invariant.0) (grind (arith, common_steps))
+DictVal::weight-returns t c = rw (← c.self.view_is, entry-weights c.self.inside.keys c.self.inside.vals.items c.self.invariant.0) (grind (arith, common_steps))
 
 pub VecVal::weight-returns-in-None : goal.VecVal::weight-returns-in-None
 VecVal::weight-returns-in-None t c =
@@ -32,14 +32,14 @@ VecVal::weight-returns-in-Some-2 t c =
 pub DictVal::weight-returns-in-None : goal.DictVal::weight-returns-in-None
 DictVal::weight-returns-in-None t c =
     let k = c.in-Some.known in
-    let es = zip c.self.inside.keys.keys (vals_of c.self.inside.vals.items) in
+    let es = zip c.self.inside.keys (vals_of c.self.inside.vals.items) in
     let all = ap entry_weights (without-none k.but es c.in-None.is) in
     rw (← c.self.view_is) (omega (arith, (c.self.invariant.2 k c.in-Some.is).weighs, all))
 
 pub DictVal::weight-returns-in-Some-but : goal.DictVal::weight-returns-in-Some-but
 DictVal::weight-returns-in-Some-but t c =
     let k = c.in-Some.known in
-    let ks = c.self.inside.keys.keys in
+    let ks = c.self.inside.keys in
     let cs = c.self.inside.vals.items in
     let at = c.in-Some-but.at in
     let key = c.index-keys-at.result in
@@ -52,7 +52,7 @@ DictVal::weight-returns-in-Some-but t c =
 pub DictVal::weight-returns-in-Some-2 : goal.DictVal::weight-returns-in-Some-2
 DictVal::weight-returns-in-Some-2 t c =
     let k = c.in-Some.known in
-    let ks = c.self.inside.keys.keys in
+    let ks = c.self.inside.keys in
     let cs = c.self.inside.vals.items in
     let all = ap entry_weights (without-past k.but (zip ks (vals_of cs)) c.in-Some-but.at c.in-Some-but.is (omega (arith, length-entries ks cs c.self.invariant.0))) in
     rw (← c.self.view_is) (omega (arith, (c.self.invariant.2 k c.in-Some.is).weighs, all))

@@ -22,5 +22,5 @@ invariant-show_vec-loop-cell l =
 
 abbrev pub invariant-show_dict-loop-at : goal.invariant-show_dict-loop-at
 invariant-show_dict-loop-at l =
-    l.out ++ rest_of l.first (show_pairs (from_pairs (zip (drop l.at l.entries-inside.keys.keys) (vals_of (drop l.at l.entries-inside.vals.items)))))
-    ≡ l.initial.out ++ rest_of l.initial.first (show_pairs (from_pairs (zip l.entries-inside.keys.keys (vals_of l.entries-inside.vals.items))))
+    l.out ++ rest_of l.first (show_pairs (from_pairs (zip (drop l.at l.entries-inside.keys) (vals_of (drop l.at l.entries-inside.vals.items)))))
+    ≡ l.initial.out ++ rest_of l.initial.first (show_pairs (from_pairs (zip l.entries-inside.keys (vals_of l.entries-inside.vals.items))))

@@ -10,7 +10,7 @@ use Rattle.hack_values.proofs.cell.DictVal.known_but.Goals as goal
 
 pub overflow_sub-result : goal.overflow_sub-result
 overflow_sub-result c =
-    let ks = c.self.inside.keys.keys in
+    let ks = c.self.inside.keys in
     let cs = c.self.inside.vals.items in
     let key = c.index-keys-at.result in
     let keyed : key ≡ slice_index_or ks c.args.at key = subst (λ l. key ≡ slice_index_or l c.args.at key) c.as_slice-keys.ensures.keys c.index-keys-at.is in
@@ -20,7 +20,7 @@ overflow_sub-result c =
 
 pub overflow_sub-result-2 : goal.overflow_sub-result-2
 overflow_sub-result-2 c =
-    let ks = c.self.inside.keys.keys in
+    let ks = c.self.inside.keys in
     let cs = c.self.inside.vals.items in
     let key = c.index-keys-at.result in
     let value = c.index.result.now in
@@ -32,7 +32,7 @@ overflow_sub-result-2 c =
 
 pub returns : goal.returns
 returns c =
-    let ks = c.self.inside.keys.keys in
+    let ks = c.self.inside.keys in
     let cs = c.self.inside.vals.items in
     let es = zip ks (vals_of cs) in
     let key = c.index-keys-at.result in

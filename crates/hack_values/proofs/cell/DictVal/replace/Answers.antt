@@ -6,7 +6,7 @@ use Rattle.hack_values.proofs.cell.DictVal.replace.Goals as goal
 
 pub invariant_of-self : goal.invariant_of-self
 invariant_of-self c =
-    let ks = c.self.inside.keys.keys in
+    let ks = c.self.inside.keys in
     let cs = c.self.inside.vals.items in
     let value = c.replace-old.new.dest in (
       length-set cs c.args.at value ∙ c.self.invariant.0,
@@ -16,7 +16,7 @@ invariant_of-self c =
 
 pub invariant_of-self-2 : goal.invariant_of-self-2
 invariant_of-self-2 c =
-    let ks = c.self.inside.keys.keys in
+    let ks = c.self.inside.keys in
     let cs = c.self.inside.vals.items in
     let value = c.replace-old.new.dest in (
       length-set cs c.args.at value ∙ c.self.invariant.0,
