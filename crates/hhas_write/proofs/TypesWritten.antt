@@ -1,12 +1,11 @@
 -- The tokens of a type spell its canonical text.
-use Rattle.std.proofs.Common.{◌≡◌, ◌≤◌, ℕ, suc, ◌+◌, ◌/◌, ◌%◌, ◌==◌, ◌||◌, inl, inr, arith, nat_le, nat_lt, Bool, true, false, ◌&&◌, List, [], ◌∷◌, ◌++◌, map, length, Option, Some, None, option_map, slice_get, codes, refl, sym, ap, ◌∙◌, append_assoc, append-nil, if◌then◌else◌}
-use Rattle.std.proofs.lemmas.Bool.Decides.{leb_tells}
+use Rattle.std.proofs.Common.{◌≡◌, ◌≤◌, ℕ, ◌+◌, arith, Bool, true, false, ◌&&◌, List, [], ◌∷◌, ◌++◌, map, length, Option, Some, None, option_map, slice_get, codes, refl, sym, ap, ◌∙◌, append_assoc, append-nil, if◌then◌else◌}
 use Rattle.std.proofs.lemmas.List.{length-append}
 use Rattle.std.specs.List.{flat_map}
 use Rattle.std.specs.Fmt.{signed_decimal}
+use Rattle.hack_values.specs.Literal.{literal_byte}
 use Rattle.hhas_lex.specs.Spaced.{text_of}
 use Rattle.hhas_lex.specs.Spelling.{spelling}
-use Rattle.hhas_lex.specs.Spelling as lexed
 use Rattle.hhas_lex.specs.Tokens.{Token, Mark}
 use Rattle.type_lattice.specs.declared.types.IntPart.{IntPart}
 use Rattle.type_lattice.specs.declared.types.IntPart.TheVariants as ints
@@ -19,7 +18,7 @@ use Rattle.type_lattice.specs.declared.types.HType.{HType}
 use Rattle.type_lattice.specs.Types.{short_bytes}
 use Rattle.type_lattice.specs.Whole.{whole_leaf, whole_key, whole_entry, is_whole, all_ints, all_strs, all_objs, part_is}
 use Rattle.type_lattice.specs.TypeText as text
-use Rattle.type_lattice.specs.TypeText.{escaped, class_name}
+use Rattle.type_lattice.specs.TypeText.{class_name}
 use Rattle.hhbc_repo.specs.LinkFaults.{Name}
 use Rattle.hhbc_repo.specs.TypeSyntax.{Atom, Written, TypeAtom, WrittenType, atom_tokens}
 use Rattle.hhbc_repo.specs.TypeSyntax as types
@@ -38,35 +37,6 @@ map_append f (x ∷ xs) ys = ap (λ l. f x ∷ l) (map_append f xs ys)
 
 both : {A B : Type 0} (f : A → B) (xs ys : List A) (us vs : List B) → map f xs ≡ us → map f ys ≡ vs → map f (xs ++ ys) ≡ us ++ vs
 both f xs ys us vs h k = map_append f xs ys ∙ (ap (λ l. l ++ map f ys) h ∙ ap (λ l. us ++ l) k)
-
--- ---- strings
-
-same_test : (d : ℕ) → nat_lt d 10 ≡ nat_le d 9
-same_test d =
-    elim (leb_tells d 9) [
-      | inl t ↦ elim (leb_tells (suc d) 10) [ inl u ↦ u.0 ∙ sym t.0 | inr u ↦ absurd (omega arith) ]
-      | inr t ↦ elim (leb_tells (suc d) 10) [ inl u ↦ absurd (omega arith) | inr u ↦ u.0 ∙ sym t.0 ]
-    ]
-
-same_digit : (d : ℕ) → lexed.hex_digit d ≡ text.hex_digit d
-same_digit d = ap (λ b. if b then 48 + d else 87 + d) (same_test d)
-
-abbrev escaped_with : ℕ → ℕ → ℕ → List ℕ
-escaped_with b high low =
-    if b == 10 then 92 ∷ 110 ∷ []
-    else if b == 34 || b == 92 then 92 ∷ b ∷ []
-    else if nat_le 32 b && nat_le b 126 then b ∷ []
-    else 92 ∷ 120 ∷ high ∷ low ∷ []
-
-same_escaped : (b : ℕ) → lexed.escaped b ≡ escaped b
-unfolding escaped
-same_escaped b =
-    ap (λ high. escaped_with b high (lexed.hex_digit (b % 16))) (same_digit (b / 16))
-    ∙ ap (λ low. escaped_with b (text.hex_digit (b / 16)) low) (same_digit (b % 16))
-
-all_escaped : (bs : List ℕ) → flat_map lexed.escaped bs ≡ flat_map escaped bs
-all_escaped [] = refl
-all_escaped (b ∷ bs) = ap (λ l. l ++ flat_map lexed.escaped bs) (same_escaped b) ∙ ap (λ l. escaped b ++ l) (all_escaped bs)
 
 -- ---- lists of atoms with bars between them
 
@@ -104,9 +74,7 @@ ints_text ints.Any = refl
 
 strs_text : (p : StrPart) → map atom_text (written.str_atoms p) ≡ text.str_atoms p
 strs_text strs.No = refl
-strs_text (strs.One s) =
-    ap (λ l. (codes "Str=" ++ (34 ∷ l)) ∷ []) (append-nil (flat_map lexed.escaped (short_bytes s) ++ 34 ∷ []))
-    ∙ ap (λ l. (codes "Str=" ++ (34 ∷ (l ++ 34 ∷ []))) ∷ []) (all_escaped (short_bytes s))
+strs_text (strs.One s) = ap (λ l. (codes "Str=" ++ (34 ∷ l)) ∷ []) (append-nil (flat_map literal_byte (short_bytes s) ++ 34 ∷ []))
 strs_text strs.Any = refl
 
 objs_text : (names : List Name) (p : ObjPart) → map atom_text (written.obj_atoms names p) ≡ text.obj_atoms names p

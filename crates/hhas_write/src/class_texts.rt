@@ -10,8 +10,8 @@ ghost use Rattle.hhbc_repo.specs.CanonicalText.{cell_token, class_head, class_pi
 
 use crate::body_heads::push_stated;
 use crate::body_texts::push_body;
-use crate::pieces::{line_close, line_directive, push_int, push_string, spaced_open, spaced_word};
-use hack_values::{Cell, NoMemory, Text};
+use crate::pieces::{line_close, line_directive, push_int, spaced_open, spaced_word};
+use hack_values::{Cell, NoMemory, Text, push_literal};
 use hhbc_repo::{Body, Class, Const, Property};
 use std::alloc::Global;
 
@@ -24,7 +24,7 @@ fn push_cell(out: &mut Text, value: &Cell) -> Result<(), NoMemory>
         Cell::Bool(true) => out.append(b"True"),
         Cell::Bool(false) => out.append(b"False"),
         Cell::Int(number) => push_int(out, *number),
-        Cell::Str(text) => push_string(out, text.bytes()),
+        Cell::Str(text) => push_literal(out, text.bytes()),
         Cell::Vec(_) => out.append(b"Vec"),
         Cell::Dict(_) => out.append(b"Dict"),
         Cell::Keyset(_) => out.append(b"Keyset"),

@@ -1,15 +1,14 @@
 //! Tokens, and the white space before them.
 
-ghost use Rattle.std.specs.Prelude.{◌≡◌, ◌++◌, [], ◌∷◌, ◌<◌, ◌/◌, ◌%◌, IfOk, OnOk, pos};
-ghost use Rattle.std.specs.List.{flat_map};
+ghost use Rattle.std.specs.Prelude.{◌≡◌, ◌++◌, [], ◌∷◌, OnOk, pos};
 ghost use Rattle.hhas_lex.specs.Spaced.{text_of};
-ghost use Rattle.hhas_lex.specs.Spelling.{escaped, hex_digit, spelling};
+ghost use Rattle.hhas_lex.specs.Spelling.{spelling};
 ghost use Rattle.hhas_lex.specs.Tokens as token;
 ghost use Rattle.hhbc_repo.specs.Canonical.{label_called};
 ghost use Rattle.hhbc_repo.specs.CanonicalText.{indent, line, spaced, tagged, tight, type_pieces};
 ghost use Rattle.hhbc_repo.specs.WrittenTypes.{canonical_type};
 
-use hack_values::{NoMemory, Text};
+use hack_values::{NoMemory, Text, push_literal};
 use itoa::Buffer;
 use std::alloc::Global;
 use type_lattice::{HType, push_type};
@@ -111,55 +110,11 @@ pub(crate) fn spaced_count(out: &mut Text, number: u16) -> Result<(), NoMemory>
     push_count(out, number)
 }
 
-fn hex_digit(digit: u8) -> u8
-    requires { digit < 16 }
-    ensures { result ≡ hex_digit digit }
-{
-    if digit < 10 {
-        b'0' + digit
-    } else {
-        b'a' - 10 + digit
-    }
-}
-
-/// A byte as a string spells it.
-fn push_escaped(out: &mut Text, byte: u8) -> Result<(), NoMemory>
-    ensures { OnOk result (out.new ≡ out.old ++ escaped byte) }
-{
-    if byte == b'\n' {
-        out.append(&[b'\\', b'n'])
-    } else if byte == b'"' || byte == b'\\' {
-        out.append(&[b'\\', byte])
-    } else if 32 <= byte && byte <= 126 {
-        out.append(&[byte])
-    } else {
-        out.append(&[b'\\', b'x', hex_digit(byte / 16), hex_digit(byte % 16)])
-    }
-}
-
-fn push_all_escaped(out: &mut Text, bytes: &[u8]) -> Result<(), NoMemory>
-    ensures { OnOk result (out.new ≡ out.old ++ flat_map escaped bytes.now) }
-{
-    for byte in bytes {
-        push_escaped(out, *byte)?;
-    }
-    Ok(())
-}
-
-/// A string in its quotes.
-pub(crate) fn push_string(out: &mut Text, bytes: &[u8]) -> Result<(), NoMemory>
-    ensures { OnOk result (out.new ≡ out.old ++ spelling (token.Str bytes.now)) }
-{
-    out.append(b"\"")?;
-    push_all_escaped(out, bytes)?;
-    out.append(b"\"")
-}
-
 pub(crate) fn spaced_string(out: &mut Text, bytes: &[u8]) -> Result<(), NoMemory>
     ensures { OnOk result (out.new ≡ out.old ++ text_of (spaced (token.Str bytes.now) ∷ [])) }
 {
     out.append(b" ")?;
-    push_string(out, bytes)
+    push_literal(out, bytes)
 }
 
 /// A word and its colon.
@@ -189,7 +144,7 @@ pub(crate) fn tagged_string(out: &mut Text, word: &[u8], bytes: &[u8]) -> Result
     ensures { OnOk result (out.new ≡ out.old ++ text_of (tagged word.now (token.Str bytes.now))) }
 {
     push_tag(out, word)?;
-    push_string(out, bytes)
+    push_literal(out, bytes)
 }
 
 pub(crate) fn tagged_int(out: &mut Text, word: &[u8], number: i64) -> Result<(), NoMemory>

@@ -7,9 +7,9 @@ ghost use Rattle.hhas_lex.specs.Spelling.{spelling};
 ghost use Rattle.hhbc_repo.specs.Canonical.{canonical_arm, label_name};
 ghost use Rattle.hhbc_repo.specs.CanonicalText.{arm_token, arms_pieces, inner_arms, label_piece, more_arm, switch_pieces, text_arms_pieces};
 
-use crate::pieces::{push_label, push_string};
+use crate::pieces::push_label;
 use crate::scope::Scope;
-use hack_values::{NoMemory, Text};
+use hack_values::{NoMemory, Text, push_literal};
 use hhbc_repo::Arm;
 
 /// The label of a position.
@@ -50,7 +50,7 @@ fn push_arm_text(out: &mut Text, text: &Option<Text>) -> Result<(), NoMemory>
     ensures { OnOk result (out.new ≡ out.old ++ spelling (arm_token text.now)) }
 {
     match text {
-        Some(text) => push_string(out, text.bytes()),
+        Some(text) => push_literal(out, text.bytes()),
         None => out.append(b"default"),
     }
 }

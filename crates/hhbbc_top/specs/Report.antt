@@ -2,7 +2,8 @@
 use Rattle.std.specs.Prelude.{◌≡◌, ℕ, List, [], ◌∷◌, ◌++◌, map, slice_get, codes}
 use Rattle.std.specs.List.{flat_map}
 use Rattle.std.specs.Fmt.{decimal}
-use Rattle.hack_values.specs.Show.{show_val, literal}
+use Rattle.hack_values.specs.Literal.{literal}
+use Rattle.hack_values.specs.Show.{show_val}
 use Rattle.hack_values.specs.View.{val_of}
 use Rattle.type_lattice.specs.TypeText.{named}
 use Rattle.hhbc_repo.specs.declared.body.Body.{Body}

@@ -2,7 +2,8 @@
 
 ghost use Rattle.std.specs.Prelude.{◌≡◌, ◌≢◌, ◌++◌, ◌∷◌, [], IfOk, OnOk, codes};
 ghost use Rattle.std.specs.Fmt.{decimal};
-ghost use Rattle.hack_values.specs.Show.{show_val, literal};
+ghost use Rattle.hack_values.specs.Literal.{literal};
+ghost use Rattle.hack_values.specs.Show.{show_val};
 ghost use Rattle.hack_values.specs.View.{val_of};
 ghost use Rattle.hhbbc_top.specs.Forms.{repo_of};
 ghost use Rattle.hhbbc_top.specs.Running as running;
