@@ -10,7 +10,6 @@ ghost use Rattle.hhbc_repo.specs.WrittenTypes.{canonical_type};
 
 use hack_values::{NoMemory, Text, push_literal};
 use itoa::Buffer;
-use std::alloc::Global;
 use type_lattice::{HType, push_type};
 
 /// Ends the line, and begins one within so many braces.
