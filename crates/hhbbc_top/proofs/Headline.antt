@@ -81,7 +81,7 @@ annotated-spelled kept r m h s = subst (λ (q : Linked). HasSpelling (annotated_
 annotated-text : Laws → (bytes : List ℕ) (r : Linked) (m : Main) (out : List ℕ) → ReadsRepository bytes r → IsMainOf r m → out ≡ annotated_text m → IsAnnotatedText bytes out
 annotated-text laws bytes r m out a h written =
     let bare-of : bare r ≡ bare_repo_of m = ap bare h.is ∙ bare-is m in
-    let is : IsAnnotated 10 r (annotated_by (bare_repo_of m)) = subst (λ (s : Linked). IsAnnotated 10 r (annotated_by s)) bare-of (laws.annotates r h.form 9) in
+    let is : IsAnnotated 10 r (annotated_by (bare_repo_of m)) = subst (λ (s : Linked). IsAnnotated 10 r (annotated_by s)) bare-of (laws.annotates r h.form h.words 9) in
     record {
       repo = r;
       read = record { reads = a; form = h.form; types = h.types };

@@ -2,8 +2,7 @@
 
 ghost use Rattle.std.specs.Prelude.{◌≡◌, ◌<◌, ◌^◌, ◌++◌, [], ◌∷◌, true, map, reverse, length, replicate, slice_get, slice_set, IfOk, OnOk, Some};
 ghost use Rattle.type_lattice.specs.Types as types;
-ghost use Rattle.type_lattice.specs.Never.{no_ints, no_strs, no_objs, is_never, all_alive};
-ghost use Rattle.type_lattice.specs.Whole.{is_whole};
+ghost use Rattle.type_lattice.specs.Never.{all_alive};
 ghost use Rattle.abstract_step.specs.State as states;
 ghost use Rattle.hhbc_repo.specs.Ranges.{few_iterators};
 ghost use Rattle.hhbc_repo.specs.Spelled.{HasSpelling};
@@ -16,7 +15,7 @@ use hack_values::{Cell, NoMemory, Seq, Text};
 use hhbc_ops::Op;
 use hhbc_repo::{Assert, Body, Code, Imm, Instr, Position, Repo, linked_bodies_keep_to_ranges};
 use std::alloc::Global;
-use type_lattice::{ClassTree, HType, IntPart, ObjPart, StrPart, le, of_literal};
+use type_lattice::{HType, of_literal};
 
 /// The types of the locals, and of the slots of the stack with the top last.
 #[derive(Drop)]
@@ -25,46 +24,12 @@ pub struct Types {
     pub stack: Vec<HType>,
 }
 
-fn lacks_ints(part: IntPart) -> bool
-    ensures { result ≡ no_ints part }
-{
-    matches!(part, IntPart::No)
-}
-
-fn lacks_strs(part: StrPart) -> bool
-    ensures { result ≡ no_strs part }
-{
-    matches!(part, StrPart::No)
-}
-
-fn lacks_objs(part: ObjPart) -> bool
-    ensures { result ≡ no_objs part }
-{
-    matches!(part, ObjPart::No)
-}
-
-/// Whether the type has no part.
-fn has_no_part(t: &HType) -> bool
-    ensures { result ≡ is_never t.now }
-{
-    !t.uninit
-        && !t.null
-        && !t.no
-        && !t.yes
-        && lacks_ints(t.int)
-        && lacks_strs(t.str)
-        && lacks_objs(t.obj)
-        && t.vec.is_none()
-        && t.dict.is_none()
-        && t.keyset.is_none()
-}
-
 /// Whether each of the types has members.
 fn are_alive(ts: &[HType]) -> bool
     ensures { result ≡ all_alive ts.now }
 {
     for t in ts {
-        if has_no_part(t) {
+        if t.is_never() {
             return false;
         }
     }
@@ -96,12 +61,6 @@ fn push_type(stack: &mut Vec<HType>, t: HType) -> Result<(), NoMemory>
 {
     stack.push(t)?;
     Ok(())
-}
-
-fn initialised(t: HType) -> HType
-    ensures { result ≡ types.initialised t }
-{
-    HType { uninit: false, ..t }
 }
 
 /// The types that enter a function without parameters.
@@ -150,7 +109,7 @@ fn pass(ts: &mut Types, step: Step) -> Result<bool, NoMemory>
             let Some(found) = type_at(&ts.locals, number) else {
                 return Ok(false);
             };
-            push_type(&mut ts.stack, initialised(found))?;
+            push_type(&mut ts.stack, found.initialised())?;
             Ok(true)
         }
         Step::RetC => Ok(false),
@@ -179,18 +138,13 @@ fn advance(ts: &mut Types, reached: bool, step: Step) -> Result<bool, NoMemory>
 }
 
 /// Adds the assertion of a local's type, unless every cell is of it.
-fn claim_local(
-    alloc: Global,
-    claims: &mut Seq<Assert>,
-    local: u8,
-    t: Option<HType>,
-) -> Result<(), NoMemory>
+fn claim_local(claims: &mut Seq<Assert>, local: u8, t: Option<HType>) -> Result<(), NoMemory>
     ensures { OnOk result (claims.new ≡ claims.old ++ annotated.claim (λ u. Assert.Local local u) t) }
 {
     let Some(t) = t else {
         return Ok(());
     };
-    if holds_all_cells(alloc, &t) {
+    if t.has_all_cells() {
         Ok(())
     } else {
         claims.push(Assert::Local(local, t))
@@ -198,34 +152,17 @@ fn claim_local(
 }
 
 /// Adds the assertion of the type of the topmost slot, unless every cell is of it.
-fn claim_top(alloc: Global, claims: &mut Seq<Assert>, t: Option<HType>) -> Result<(), NoMemory>
+fn claim_top(claims: &mut Seq<Assert>, t: Option<HType>) -> Result<(), NoMemory>
     ensures { OnOk result (claims.new ≡ claims.old ++ annotated.claim (λ u. Assert.Stack 0 u) t) }
 {
     let Some(t) = t else {
         return Ok(());
     };
-    if holds_all_cells(alloc, &t) {
+    if t.has_all_cells() {
         Ok(())
     } else {
         claims.push(Assert::Stack(0, t))
     }
-}
-
-/// The tree without classes.
-fn no_classes(alloc: Global) -> ClassTree
-    ensures { result ≡ [] }
-{
-    match ClassTree::new(Seq::new(alloc)) {
-        Some(tree) => tree,
-        None => unreachable!(),
-    }
-}
-
-/// Whether every cell is of the type. Its classes don't matter for that.
-fn holds_all_cells(alloc: Global, t: &HType) -> bool
-    ensures { result ≡ is_whole t.now }
-{
-    le(&HType::CELL, t, &no_classes(alloc))
 }
 
 /// The assertions before a code that is reached.
@@ -236,11 +173,11 @@ fn claims_of(alloc: Global, ts: &Types, step: Step) -> Result<Seq<Assert>, NoMem
     let mut claims = Seq::new(alloc);
     match step {
         Step::CGetL(local) => {
-            claim_local(alloc, &mut claims, local, type_at(&ts.locals, local))?;
+            claim_local(&mut claims, local, type_at(&ts.locals, local))?;
             Ok(claims)
         }
         Step::PopC | Step::SetL(_) | Step::RetC => {
-            claim_top(alloc, &mut claims, top_of(&ts.stack))?;
+            claim_top(&mut claims, top_of(&ts.stack))?;
             Ok(claims)
         }
         Step::Null | Step::True | Step::False | Step::Int(_) => Ok(claims),
