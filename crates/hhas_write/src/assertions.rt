@@ -58,9 +58,7 @@ fn push_assertion(
 {
     match claim {
         Assert::Local(local, t) => { local_assertion(out, depth, b"AssertRATL", scope, *local, t) }
-        Assert::Stack(slot, t) => {
-            stack_assertion(out, depth, b"AssertRATStk", scope, *slot, t)
-        }
+        Assert::Stack(slot, t) => { stack_assertion(out, depth, b"AssertRATStk", scope, *slot, t) }
     }
 }
 
@@ -91,12 +89,7 @@ fn push_instruction(
     push_operands(out, scope, code.op, code.imms.as_slice())
 }
 
-fn push_code(
-    out: &mut Text,
-    depth: usize,
-    scope: &Scope<'_>,
-    code: &Code,
-) -> Result<(), NoMemory>
+fn push_code(out: &mut Text, depth: usize, scope: &Scope<'_>, code: &Code) -> Result<(), NoMemory>
     ensures { OnOk result (out.new ≡ out.old ++ text_of (code_pieces depth (canonical_code scope.now.classes scope.now.body code.now))) }
 {
     match code {

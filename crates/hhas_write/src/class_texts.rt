@@ -58,11 +58,7 @@ fn push_consts(out: &mut Text, consts: &[Const]) -> Result<(), NoMemory>
     Ok(())
 }
 
-fn push_property(
-    out: &mut Text,
-    classes: &[Text],
-    property: &Property,
-) -> Result<(), NoMemory>
+fn push_property(out: &mut Text, classes: &[Text], property: &Property) -> Result<(), NoMemory>
     ensures { OnOk result (out.new ≡ out.old ++ text_of (property_pieces (canonical_property classes.now property.now))) }
 {
     push_valued(out, b"property", property.name.bytes(), &property.initial)?;

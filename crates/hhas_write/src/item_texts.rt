@@ -11,11 +11,7 @@ use crate::turns::push_before;
 use hack_values::{NoMemory, Text};
 
 /// The positions of a body, each behind what stands before it, and what stands behind the last.
-pub(crate) fn push_items(
-    out: &mut Text,
-    depth: usize,
-    scope: &Scope<'_>,
-) -> Result<(), NoMemory>
+pub(crate) fn push_items(out: &mut Text, depth: usize, scope: &Scope<'_>) -> Result<(), NoMemory>
     ensures { OnOk result (out.new ≡ out.old ++ text_of (item_pieces depth (items_from scope.now.classes scope.now.body 0 scope.now.body.positions))) }
 {
     let positions = scope.positions();

@@ -52,12 +52,7 @@ fn push_iter_locals(
 }
 
 /// An operand of an instruction.
-fn push_operand(
-    out: &mut Text,
-    scope: &Scope<'_>,
-    op: Op,
-    operand: &Imm,
-) -> Result<(), NoMemory>
+fn push_operand(out: &mut Text, scope: &Scope<'_>, op: Op, operand: &Imm) -> Result<(), NoMemory>
     ensures { OnOk result (out.new ≡ out.old ++ text_of (operand_pieces op (canonical_operand scope.now.classes scope.now.body operand.now))) }
 {
     match operand {
