@@ -83,3 +83,4 @@ pub mod FirstFaults
 pub mod FittingTexts
 pub mod ReadBack
 pub mod FewParts
+pub mod LinkedRead
