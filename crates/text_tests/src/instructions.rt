@@ -257,7 +257,10 @@ fn words_of_operands(rt: HostRuntime) -> Result<(), Fail> {
         "SrEqual",
     ];
     for word in set_ops {
-        assert_eq!(rt; set_op_named(word.as_bytes()).map(|found| set_op_name(found)), Some(word));
+        assert_eq!(rt;
+            set_op_named(word.as_bytes()).map(|found| set_op_name(found)),
+            Some(word)
+        );
     }
     let inc_decs: [&'static str; 4] = ["PreInc", "PostInc", "PreDec", "PostDec"];
     for word in inc_decs {
