@@ -3,6 +3,7 @@
 
 #[cfg(test)]
 mod scalars;
+mod sizes;
 #[cfg(test)]
 mod streams;
 #[cfg(test)]
