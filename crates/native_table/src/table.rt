@@ -1,4 +1,5 @@
-ghost use Rattle.std.specs.Prelude.{◌≡◌, [], ◌∷◌, ◌++◌, true, false, if◌then◌else◌, All, IfOk, IfErr, IfSome, OnOk, OnErr, Some, length, option_map};
+ghost use Rattle.std.specs.Prelude.{◌≡◌, [], ◌∷◌, ◌++◌, true, false, if◌then◌else◌, All, IfOk, IfErr, IfSome, OnOk, OnErr, Some, length, map, option_map};
+ghost use Rattle.indexmap.specs.IndexMap.{keys, values};
 ghost use Rattle.hack_values.specs.Natives.{native_value};
 ghost use Rattle.native_table.specs.Answers.{answered, no_objects, IsOfType};
 
@@ -6,7 +7,6 @@ use crate::{Native, NativeAnswer};
 use hack_values::{Cell, NoMemory};
 use indexmap::IndexMap;
 use std::alloc::Global;
-use std::marker::Model;
 
 /// Why a native wasn't added. It comes back.
 #[derive(Drop)]
@@ -21,31 +21,16 @@ pub enum AddFault {
 #[derive(Drop)]
 pub struct NativeTable {
     natives: IndexMap<Vec<u8>, Native>,
-}
-
-impl Model for NativeTable {
-    ghost use Rattle.std.specs.Prelude.{List, map, ◌≡◌};
-    ghost use Rattle.std.specs.Coded.{coded_list};
-    ghost use Rattle.indexmap.specs.IndexMap.{keys, values};
-    ghost use Rattle.native_table.specs.Rows.{NativeRow, coded_row};
-    ghost use Rattle.native_table.specs.RowOf.{row_of};
-
-    ghost Value = { List NativeRow };
-
-    ghost coded = { coded_list coded_row };
-
-    ghost view = { λ t. map row_of (values t.natives) };
-
-    ghost invariant = { λ t. map (λ k. k.items) (keys t.natives) ≡ map (λ n. n.name) (values t.natives) };
+    ghost keyed: { map (λ k. k.items) (keys natives) ≡ map (λ n. n.name) (values natives) },
 }
 
 impl NativeTable {
     ghost use Rattle.native_table.specs.Rows.{NativeRow, IsTyped, has_native, native_named};
-    ghost use Rattle.native_table.specs.RowOf.{row_of};
+    ghost use Rattle.native_table.specs.RowOf.{row_of, rows_of, natives_of};
 
     /// The table without natives.
     pub fn new(alloc: Global) -> NativeTable
-        ensures { result ≡ [] }
+        ensures { natives_of result ≡ [] }
     {
         NativeTable {
             natives: IndexMap::new(alloc),
@@ -54,9 +39,9 @@ impl NativeTable {
 
     /// Puts a native of a new name at the end.
     pub fn add(&mut self, native: Native) -> Result<(), AddFault>
-        ensures ok { OnOk result ((has_native self.old native.name ≡ false) × (self.new ≡ self.old ++ row_of native ∷ [])) }
-        ensures fault { IfErr result (λ fault. fault ≡ if has_native self.old native.name then AddFault.NameTaken native else AddFault.NoMemory native) }
-        ensures err { OnErr result (self.new ≡ self.old) }
+        ensures ok { OnOk result ((has_native (rows_of self.old) native.name ≡ false) × (natives_of self.new ≡ natives_of self.old ++ native ∷ [])) }
+        ensures fault { IfErr result (λ fault. fault ≡ if has_native (rows_of self.old) native.name then AddFault.NameTaken native else AddFault.NoMemory native) }
+        ensures err { OnErr result (natives_of self.new ≡ natives_of self.old) }
     {
         if self.natives.contains_key(native.name.bytes()) {
             return Err(AddFault::NameTaken(native));
@@ -73,18 +58,18 @@ impl NativeTable {
 
     /// The native of a name.
     pub fn find(&self, name: &[u8]) -> Option<&Native>
-        ensures { option_map (λ native. row_of native.now) result ≡ native_named self.now name.now }
+        ensures { option_map (λ native. row_of native.now) result ≡ native_named (rows_of self.now) name.now }
     {
         self.natives.get(name)
     }
 
     /// Calls the native of a name.
     pub fn call(&self, alloc: Global, name: &[u8], args: &[Cell]) -> Result<NativeAnswer, NoMemory>
-        requires there { has_native self.now name.now ≡ true }
-        requires count { IfSome (native_named self.now name.now) (λ row. length args.now ≡ row.arity) }
+        requires there { has_native (rows_of self.now) name.now ≡ true }
+        requires count { IfSome (native_named (rows_of self.now) name.now) (λ row. length args.now ≡ row.arity) }
         requires objects { no_objects args.now ≡ true }
         ensures value { IfOk result (λ answer. answer ≡ answered (native_value name.now args.now)) }
-        ensures in_type { IfSome (native_named self.now name.now) (λ row. IfSome (native_value name.now args.now) (λ value. IsOfType value row.answers)) }
+        ensures in_type { IfSome (native_named (rows_of self.now) name.now) (λ row. IfSome (native_value name.now args.now) (λ value. IsOfType value row.answers)) }
     {
         match self.find(name) {
             Some(native) => (native.call)(alloc, args),
@@ -95,7 +80,7 @@ impl NativeTable {
     /// What each native keeps of its type: that it has no Uninit and names no class, and that all that the native of its
     /// name gives is of it.
     pub fn is_typed(&self)
-        ensures { All IsTyped self.now }
+        ensures { All IsTyped (rows_of self.now) }
     {
         let _ = &self.natives;
     }
