@@ -18,9 +18,12 @@ pub record NativeRow : Type 0 where
   pub answers : HType
 
 -- the first of a name
+abbrev pub named : {A : Type 0} → (A → List ℕ) → List A → List ℕ → Option A
+named name_of [] name = None
+named name_of (a ∷ more) name = cond (bytes_eq name (name_of a)) (Some a) (named name_of more name)
+
 abbrev pub native_named : List NativeRow → List ℕ → Option NativeRow
-native_named [] name = None
-native_named (row ∷ rows) name = cond (bytes_eq name row.name) (Some row) (native_named rows name)
+native_named rows name = named (λ row. row.name) rows name
 
 abbrev pub has_native : List NativeRow → List ℕ → Bool
 has_native rows name = is_some (native_named rows name)

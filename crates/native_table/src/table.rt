@@ -1,4 +1,4 @@
-ghost use Rattle.std.specs.Prelude.{◌≡◌, [], ◌∷◌, ◌++◌, true, false, if◌then◌else◌, All, IfOk, IfErr, IfSome, OnOk, OnErr, Some, length, map, option_map};
+ghost use Rattle.std.specs.Prelude.{◌≡◌, [], ◌∷◌, ◌++◌, true, false, if◌then◌else◌, All, IfOk, IfErr, IfSome, OnOk, OnErr, Some, length, map, option_copied, option_map};
 ghost use Rattle.indexmap.specs.IndexMap.{keys, values};
 ghost use Rattle.hack_values.specs.Natives.{native_value};
 ghost use Rattle.native_table.specs.Answers.{answered, no_objects, IsOfType};
@@ -25,7 +25,7 @@ pub struct NativeTable {
 }
 
 impl NativeTable {
-    ghost use Rattle.native_table.specs.Rows.{NativeRow, IsTyped, has_native, native_named};
+    ghost use Rattle.native_table.specs.Rows.{NativeRow, IsTyped, has_native, named, native_named};
     ghost use Rattle.native_table.specs.RowOf.{row_of, rows_of, natives_of};
 
     /// The table without natives.
@@ -43,7 +43,7 @@ impl NativeTable {
         ensures fault { IfErr result (λ fault. fault ≡ if has_native (rows_of self.old) native.name then AddFault.NameTaken native else AddFault.NoMemory native) }
         ensures err { OnErr result (natives_of self.new ≡ natives_of self.old) }
     {
-        if self.natives.contains_key(native.name.bytes()) {
+        if self.find(native.name.bytes()).is_some() {
             return Err(AddFault::NameTaken(native));
         }
         let alloc = *self.natives.allocator();
@@ -58,7 +58,8 @@ impl NativeTable {
 
     /// The native of a name.
     pub fn find(&self, name: &[u8]) -> Option<&Native>
-        ensures { option_map (λ native. row_of native.now) result ≡ native_named (rows_of self.now) name.now }
+        ensures native { option_copied result ≡ named (λ native. native.name) (natives_of self.now) name.now }
+        ensures row { option_map row_of (option_copied result) ≡ native_named (rows_of self.now) name.now }
     {
         self.natives.get(name)
     }
