@@ -1,5 +1,5 @@
 -- What is found by its name, in a list and in a table whose keys are the names.
-use Rattle.std.proofs.Common.{◌≡◌, ℕ, Bool, true, false, cond, is_some, List, [], ◌∷◌, ◌++◌, map, drop, get_or, Option, Some, None, option_map, Result, Ok, Err, OnOk, OnErr, IfSome, refl, ap, ap₂, sym, subst, ◌∙◌, true≢false, arith}
+use Rattle.std.proofs.Common.{◌≡◌, ℕ, Bool, true, false, cond, is_some, List, [], ◌∷◌, ◌++◌, map, drop, get_or, Option, Some, None, option_map, option_copied, Bor, Result, Ok, Err, OnOk, OnErr, IfSome, refl, ap, ap₂, sym, subst, ◌∙◌, true≢false}
 use Rattle.std.proofs.lemmas.List.{map-append}
 use Rattle.std.proofs.lemmas.Slice.Eq.{bytes_eq-Decides}
 use Rattle.std.specs.Map.{keys_of, values_of, lookup}
@@ -9,7 +9,7 @@ use Rattle.indexmap.specs.IndexMap.{IndexMap, insert_entry, get}
 use Rattle.indexmap.proofs.CallerLemmas.{insert_entry-new}
 use Rattle.native_table.specs.Rows.{named}
 
-pub none-there : {A : Type 0} (o : Option A) → is_some o ≡ false → o ≡ None
+none-there : {A : Type 0} (o : Option A) → is_some o ≡ false → o ≡ None
 none-there None h = refl
 none-there (Some a) h = absurd (true≢false h)
 
@@ -45,9 +45,11 @@ module _ {A S : Type 0} (name_of : A → List ℕ) where
   lookup-named name [] h = refl
   lookup-named name (e ∷ es) h = ap₂ (λ key rest. cond (bytes_eq name key) (Some e.1) rest) (ap (λ l. get_or l 0 []) h) (lookup-named name es (ap (drop 1) h))
 
-  pub absent-key : (name : List ℕ) (key : Vec ℕ S) (es : List (Vec ℕ S × A)) → IsKeyed es → key.items ≡ name → named name_of (values_of es) name ≡ None
-      → lookup (λ k. bytes_eq key.items k.items) es ≡ None
-  absent-key name key es h n none = lookup-named key.items es h ∙ ap (named name_of (values_of es)) n ∙ none
+  -- where nothing was found by a name, its key isn't there
+  pub absent-key : (es : List (Vec ℕ S × A)) → IsKeyed es → (key : Vec ℕ S) (asked : List ℕ) (found : Option (Bor A)) → key.items ≡ asked
+      → option_copied found ≡ named name_of (values_of es) asked → is_some found ≡ false → lookup (λ k. bytes_eq key.items k.items) es ≡ None
+  absent-key es h key asked found n is nothing =
+      lookup-named key.items es h ∙ ap (named name_of (values_of es)) n ∙ sym is ∙ ap option_copied (none-there found nothing)
 
   pub keyed-append : (es : List (Vec ℕ S × A)) (key : Vec ℕ S) (a : A) → IsKeyed es → key.items ≡ name_of a → IsKeyed (es ++ (key, a) ∷ [])
   keyed-append [] key a h n = ap (λ x. x ∷ []) n

@@ -1,5 +1,5 @@
 -- Natives keep what is asked of their rows.
-use Rattle.std.proofs.Common.{ℕ, suc, zero, List, [], ◌∷◌, map, length, ◌<◌, All, arith}
+use Rattle.std.proofs.Common.{suc, zero, List, [], ◌∷◌, map, All, arith}
 use Rattle.native_table.specs.Rows.{IsTyped}
 use Rattle.native_table.specs.RowOf.{row_of}
 use Rattle.native_table.specs.declared.native.Native.{Native}

@@ -1,6 +1,5 @@
 -- The natives of a table, and natives as rows.
-use Rattle.std.specs.Prelude.{ℕ, cond, List, [], ◌∷◌, map, Option, Some, None}
-use Rattle.std.specs.Str.{bytes_eq}
+use Rattle.std.specs.Prelude.{List, map}
 use Rattle.indexmap.specs.IndexMap.{values}
 use Rattle.native_table.specs.Rows.{NativeRow}
 use Rattle.native_table.specs.declared.native.Native.{Native}

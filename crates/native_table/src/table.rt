@@ -16,8 +16,9 @@ pub enum AddFault {
     NoMemory(Native),
 }
 
-/// Natives of different names, which are found by their bytes. A clause sees the list of their names, numbers of
-/// arguments and types of answers. It keeps the allocator that it was made with.
+/// Natives of different names, each found by the bytes of its name. A clause sees them as a list, in the order in which
+/// they were added (`natives_of`), or as the list of their names, numbers of arguments and types of answers (`rows_of`).
+/// It keeps the allocator that it was made with.
 #[derive(Drop)]
 pub struct NativeTable {
     natives: IndexMap<Vec<u8>, Native>,
@@ -39,7 +40,8 @@ impl NativeTable {
 
     /// Puts a native of a new name at the end.
     pub fn add(&mut self, native: Native) -> Result<(), AddFault>
-        ensures ok { OnOk result ((has_native (rows_of self.old) native.name ≡ false) × (natives_of self.new ≡ natives_of self.old ++ native ∷ [])) }
+        ensures new_name { OnOk result (has_native (rows_of self.old) native.name ≡ false) }
+        ensures added { OnOk result (natives_of self.new ≡ natives_of self.old ++ native ∷ []) }
         ensures fault { IfErr result (λ fault. fault ≡ if has_native (rows_of self.old) native.name then AddFault.NameTaken native else AddFault.NoMemory native) }
         ensures err { OnErr result (natives_of self.new ≡ natives_of self.old) }
     {
