@@ -1,7 +1,7 @@
-ghost use Rattle.std.specs.Prelude.{◌≡◌, true, false, IfOk};
+ghost use Rattle.std.specs.Prelude.{◌≡◌, ◌↔◌, true, false, not, IfOk, IsTrue};
 ghost use Rattle.hack_values.specs.Natives.{native_value};
 ghost use Rattle.type_lattice.specs.InRange.{is_proper};
-ghost use Rattle.native_table.specs.Answers.{AreArguments, answered, answer_prop};
+ghost use Rattle.native_table.specs.Answers.{AreArguments, answered, answer_prop, no_objects};
 ghost use Rattle.native_table.specs.Rows.{HoldsValues};
 
 use crate::NativeAnswer;
@@ -25,4 +25,24 @@ pub struct Native {
     pub ghost is_initialised: { answer.uninit ≡ false },
     pub ghost names_no_class: { is_proper 0 answer ≡ true },
     pub ghost holds_values: { HoldsValues name arity answer },
+}
+
+impl Native {
+    /// Whether it may be called with these arguments: there are as many as it takes, and none is or holds an object.
+    pub fn takes(&self, args: &[Cell]) -> bool
+        ensures { IsTrue result ↔ AreArguments self.now.arity args.now }
+    {
+        args.len() == self.arity as usize && !hold_object(args)
+    }
+}
+
+fn hold_object(cells: &[Cell]) -> bool
+    ensures { result ≡ not (no_objects cells.now) }
+{
+    for cell in cells {
+        if cell.holds_object() {
+            return true;
+        }
+    }
+    false
 }
