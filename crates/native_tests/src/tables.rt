@@ -13,16 +13,31 @@ const INT: HType = HType {
     ..HType::NEVER
 };
 
-/// What the native of the name answers, where it may be called.
-fn answer(
-    alloc: Global,
-    table: &NativeTable,
-    name: &[u8],
-    args: &[Cell],
-) -> Result<Option<NativeAnswer>, NoMemory> {
+/// What came of a call by name.
+#[derive(Clone, Copy, Debug, PartialEq, Eq)]
+enum Called {
+    Int(i64),
+    Other,
+    Throws,
+    NoMemory,
+    /// There is no native of the name that takes these arguments.
+    Nothing,
+}
+
+fn call(alloc: Global, table: &NativeTable, name: &[u8], arg: Cell) -> Called {
+    let args = [arg];
     match table.find(name) {
-        Some(native) if native.takes(args) => Ok(Some(table.call(alloc, name, args)?)),
-        _ => Ok(None),
+        Some(native) if native.takes(&args) => outcome(table.call(alloc, name, &args)),
+        _ => Called::Nothing,
+    }
+}
+
+fn outcome(answer: Result<NativeAnswer, NoMemory>) -> Called {
+    match answer {
+        Ok(NativeAnswer::Value(Cell::Int(number))) => Called::Int(number),
+        Ok(NativeAnswer::Value(_other)) => Called::Other,
+        Ok(NativeAnswer::Throws) => Called::Throws,
+        Err(_want) => Called::NoMemory,
     }
 }
 
@@ -38,60 +53,63 @@ fn throws(_alloc: Global, _args: &[Cell]) -> Result<NativeAnswer, NoMemory>
     Ok(NativeAnswer::Throws)
 }
 
+/// The name that comes back since it is taken.
+fn taken(added: Result<(), AddFault>) -> Option<Text> {
+    match added {
+        Ok(()) => None,
+        Err(AddFault::NameTaken(native)) => Some(native.name),
+        Err(AddFault::NoMemory(_native)) => None,
+    }
+}
+
 #[test]
 fn a_name_is_taken_once(rt: HostRuntime) -> Result<(), Fail> {
     native_values_are_typed();
-    let mut table = NativeTable::new(rt.alloc());
+    let alloc = rt.alloc();
+    let mut table = NativeTable::new(alloc);
     let first = Native {
-        name: Text::from_bytes(rt.alloc(), b"strlen")?,
+        name: Text::from_bytes(alloc, b"strlen")?,
         arity: 1,
         answer: INT,
         call: native_strlen,
     };
+    assert!(rt; table.add(first).is_ok());
     let second = Native {
-        name: Text::from_bytes(rt.alloc(), b"strlen")?,
+        name: Text::from_bytes(alloc, b"strlen")?,
         arity: 1,
         answer: INT,
         call: wants_memory,
     };
-    assert!(rt; table.add(first).is_ok());
-    let refused = match table.add(second) {
-        Err(AddFault::NameTaken(native)) => Some(native),
-        _ => None,
-    };
-    assert_eq!(rt;
-        refused.as_ref().map(|native| native.name.bytes()),
-        Some(b"strlen".as_slice())
-    );
-    let args = [Cell::Str(Text::from_bytes(rt.alloc(), b"abc")?)];
-    let answered = answer(rt.alloc(), &table, b"strlen", &args)?;
-    assert!(rt; matches!(answered, Some(NativeAnswer::Value(Cell::Int(3)))));
+    let name = taken(table.add(second));
+    assert_eq!(rt; name.as_ref().map(Text::bytes), Some(b"strlen".as_slice()));
+    let abc = Cell::Str(Text::from_bytes(alloc, b"abc")?);
+    assert_eq!(rt; call(alloc, &table, b"strlen", abc), Called::Int(3));
+    assert_eq!(rt; call(alloc, &table, b"strlen", Cell::Null), Called::Throws);
     Ok(())
 }
 
 #[test]
 fn what_is_stored_is_called(rt: HostRuntime) -> Result<(), Fail> {
     native_values_are_typed();
-    let mut table = NativeTable::new(rt.alloc());
+    let alloc = rt.alloc();
+    let mut table = NativeTable::new(alloc);
     let wanting = Native {
-        name: Text::from_bytes(rt.alloc(), b"abs")?,
+        name: Text::from_bytes(alloc, b"abs")?,
         arity: 1,
         answer: INT,
         call: wants_memory,
     };
+    assert!(rt; table.add(wanting).is_ok());
     let other = Native {
-        name: Text::from_bytes(rt.alloc(), b"other")?,
-        arity: 0,
+        name: Text::from_bytes(alloc, b"other")?,
+        arity: 1,
         answer: HType::NEVER,
         call: throws,
     };
-    assert!(rt; table.add(wanting).is_ok());
     assert!(rt; table.add(other).is_ok());
-    assert!(rt; answer(rt.alloc(), &table, b"abs", &[Cell::Int(1)]).is_err());
-    let answered = answer(rt.alloc(), &table, b"other", &[])?;
-    assert!(rt; matches!(answered, Some(NativeAnswer::Throws)));
-    assert!(rt; answer(rt.alloc(), &table, b"ab", &[Cell::Int(1)])?.is_none());
-    assert!(rt; answer(rt.alloc(), &table, b"abs", &[Cell::Obj(0)])?.is_none());
-    assert!(rt; answer(rt.alloc(), &table, b"abs", &[])?.is_none());
+    assert_eq!(rt; call(alloc, &table, b"abs", Cell::Int(1)), Called::NoMemory);
+    assert_eq!(rt; call(alloc, &table, b"other", Cell::Int(1)), Called::Throws);
+    assert_eq!(rt; call(alloc, &table, b"ab", Cell::Int(1)), Called::Nothing);
+    assert_eq!(rt; call(alloc, &table, b"abs", Cell::Obj(0)), Called::Nothing);
     Ok(())
 }
