@@ -1,7 +1,7 @@
 -- Natives keep what is asked of their rows.
 use Rattle.std.proofs.Common.{suc, zero, List, [], ◌∷◌, map, All, arith}
 use Rattle.native_table.specs.Rows.{IsTyped}
-use Rattle.native_table.specs.RowOf.{row_of}
+use Rattle.native_table.specs.Tables.{row_of}
 use Rattle.native_table.specs.declared.native.Native.{Native}
 
 pub typed-rows : {g m : _} (ns : List (Native g m)) → All IsTyped (map row_of ns)

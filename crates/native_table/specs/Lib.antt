@@ -1,3 +1,3 @@
 pub mod Answers
 pub mod Rows
-pub mod RowOf
+pub mod Tables

@@ -1,15 +1,13 @@
 -- Natives as a list: of each the name, how many arguments it takes, and the type of what it answers.
 use Rattle.std.specs.Prelude.{◌≡◌, ℕ, Bool, true, false, cond, is_some, List, [], ◌∷◌, Option, Some, None}
-use Rattle.std.specs.Coded.{Coded, coded_ℕ, coded_list, coded×}
 use Rattle.std.specs.Str.{bytes_eq}
-use Rattle.std.proofs.Common.{ap}
 use Rattle.hack_values.specs.Natives.{native_value}
+use Rattle.hack_values.specs.declared.cell.Cell.{Cell}
 use Rattle.type_lattice.specs.InRange.{is_proper}
 use Rattle.type_lattice.specs.Types.{never}
 use Rattle.type_lattice.specs.declared.types.HType.{HType}
 use Rattle.type_lattice.specs.declared.types.IntPart.TheVariants as ints
 use Rattle.type_lattice.specs.declared.types.StrPart.TheVariants as strs
-use Rattle.type_lattice.specs.contracts.types.HType.{the_row as type_row}
 use Rattle.native_table.specs.Answers.{AreArguments, IsOfType}
 
 pub record NativeRow : Type 0 where
@@ -30,9 +28,9 @@ has_native rows name = is_some (native_named rows name)
 
 -- whatever the native of the name gives for so many arguments is of the type
 abbrev pub HoldsValues : List ℕ → ℕ → HType → Type 0
-HoldsValues name arity answers = (args : List _) (c : _) → AreArguments arity args → native_value name args ≡ Some c → IsOfType c answers
+HoldsValues name arity answers = (args : List Cell) (c : Cell) → AreArguments arity args → native_value name args ≡ Some c → IsOfType c answers
 
--- the type of its answers has no Uninit and names no class, and holds all that it answers
+-- the type of a native's answers has no Uninit and names no class, and holds all that it gives
 pub record IsTyped (row : NativeRow) : Type 0 where
   pub initialised : row.answers.uninit ≡ false
   pub classless : is_proper 0 row.answers ≡ true
@@ -44,13 +42,3 @@ any_int = record never { int = ints.Any }
 
 abbrev pub any_str : HType
 any_str = record never { str = strs.Any }
-
--- two rows with one code are one
-abbrev pub coded_parts : Coded (List ℕ × (ℕ × HType))
-coded_parts = coded× (coded_list coded_ℕ) (coded× coded_ℕ type_row.coded)
-
-abbrev pub coded_row : Coded NativeRow
-coded_row = record {
-  code = λ row. coded_parts.code (row.name, (row.arity, row.answers));
-  inj = λ a b e. ap (λ parts. record { name = parts.0; arity = parts.1.0; answers = parts.1.1 }) (coded_parts.inj (a.name, (a.arity, a.answers)) (b.name, (b.arity, b.answers)) e);
-}

@@ -27,7 +27,7 @@ pub struct NativeTable {
 
 impl NativeTable {
     ghost use Rattle.native_table.specs.Rows.{NativeRow, IsTyped, has_native, named, native_named};
-    ghost use Rattle.native_table.specs.RowOf.{row_of, rows_of, natives_of};
+    ghost use Rattle.native_table.specs.Tables.{row_of, rows_of, natives_of};
 
     /// The table without natives.
     pub fn new(alloc: Global) -> NativeTable

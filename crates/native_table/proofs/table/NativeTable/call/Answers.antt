@@ -2,7 +2,7 @@ use Rattle.std.proofs.Common.{◌≡◌, ◌∙◌, ap, sym, subst, option_map, 
 use Rattle.hack_values.specs.Natives.{native_value}
 use Rattle.native_table.specs.Answers.{answered, IsOfType}
 use Rattle.native_table.specs.Rows.{NativeRow, native_named}
-use Rattle.native_table.specs.RowOf.{row_of, rows_of, natives_of}
+use Rattle.native_table.specs.Tables.{row_of, rows_of, natives_of}
 use Rattle.native_table.proofs.Found.{found-name, some-each}
 use Rattle.native_table.proofs.table.NativeTable.call.Goals as goal
 

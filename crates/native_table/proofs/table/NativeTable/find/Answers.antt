@@ -1,6 +1,6 @@
 use Rattle.std.proofs.Common.{◌∙◌, ap, option_map}
 use Rattle.native_table.proofs.Found.{lookup-named, named-map}
-use Rattle.native_table.specs.RowOf.{row_of, natives_of}
+use Rattle.native_table.specs.Tables.{row_of, natives_of}
 use Rattle.native_table.proofs.table.NativeTable.find.Goals as goal
 
 pub returns-clause-native : goal.returns-clause-native

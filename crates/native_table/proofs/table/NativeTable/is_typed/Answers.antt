@@ -1,5 +1,5 @@
 use Rattle.native_table.proofs.TypedRows.{typed-rows}
-use Rattle.native_table.specs.RowOf.{natives_of}
+use Rattle.native_table.specs.Tables.{natives_of}
 use Rattle.native_table.proofs.table.NativeTable.is_typed.Goals as goal
 
 pub returns : goal.returns
