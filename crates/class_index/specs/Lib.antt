@@ -1,4 +1,5 @@
 pub mod Leaves
 pub mod Named
+pub mod Reached
 pub mod Reading
 pub mod Writing

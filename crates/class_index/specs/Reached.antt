@@ -1,0 +1,38 @@
+-- What bears a name, and which of it objects of a part have: so no walk goes over all classes.
+use Rattle.std.specs.Prelude.{ℕ, Bool, true, false, ◌||◌, List, [], Option, Some, None, slice_get, get_or}
+use Rattle.type_lattice.specs.declared.types.ObjPart.{ObjPart}
+use Rattle.type_lattice.specs.declared.types.ObjPart.TheVariants as objs
+use Rattle.type_lattice.specs.Classes.{Tree, below, flat}
+use Rattle.hhbc_repo.specs.Linked.{Linked}
+use Rattle.hhbc_repo.specs.LinkFaults.{Name}
+use Rattle.hhbc_repo.specs.Bodies.{tree_of, numbers}
+use Rattle.hhbc_repo.specs.LookUps.{method_of, owners, property_owners, total, all_properties}
+use Rattle.hhbc_repo.specs.Places.{properties_named}
+use Rattle.class_index.specs.Named.{Names, NoName, OneName, AnyName, is_number, gives}
+
+-- objects of the part have what this class declares, where `give` says of a class whether its objects have it
+abbrev pub reaches : Tree → ObjPart → (ℕ → Bool) → ℕ → Bool
+reaches tree objs.No give d = false
+reaches tree (objs.Exact c) give d = give c
+reaches tree (objs.Sub c) give d = below tree d c || give c
+reaches tree objs.Any give d = true
+
+-- a function is declared by no class
+abbrev pub reaches_from : Tree → ObjPart → (ℕ → Bool) → Option ℕ → Bool
+reaches_from tree part give None = false
+reaches_from tree part give (Some d) = reaches tree part give d
+
+abbrev pub owner_at : Linked → ℕ → ℕ
+owner_at r q = get_or (property_owners r) q 0
+
+abbrev pub is_reached : Linked → ObjPart → Names → ℕ → Bool
+is_reached r part names q = reaches (tree_of r) part (gives r names q) (owner_at r q)
+
+abbrev pub is_entered : Linked → ObjPart → Name → ℕ → Bool
+is_entered r part name n = reaches_from (tree_of r) part (λ c. is_number (method_of r c name) n) (flat (slice_get (owners r) n))
+
+-- the properties that bear one of the names, whichever class declares them
+abbrev pub borne : Linked → Names → List ℕ
+borne r NoName = []
+borne r (OneName name) = properties_named r name
+borne r AnyName = numbers 0 (total (all_properties r))
