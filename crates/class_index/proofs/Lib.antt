@@ -1,2 +1,4 @@
 pub mod Tables
 pub mod PartsReached
+pub mod NamesReached
+pub mod Candidates

@@ -75,7 +75,7 @@ pub record Declared (first n : ℕ) (table : List (List Name)) (i : ℕ) : Type 
   pub place : ℕ
   pub stands : slice_get (own_from first (map length table) class) place ≡ Some (first + i)
 
-split_at : (i k : ℕ) → (i < k) ⊎ (k ≤ i)
+pub split_at : (i k : ℕ) → (i < k) ⊎ (k ≤ i)
 split_at i zero = inr (omega arith)
 split_at zero (suc k) = inl (omega arith)
 split_at (suc i) (suc k) = go (split_at i k)
@@ -93,3 +93,6 @@ declared first n (names ∷ table) i h = go (split_at i (length names)) (λ k. d
     go (inr k) more =
         let w = more (omega (arith, h, k)) in
         record { class = suc w.class; place = w.place; stands = w.stands ∙ ap (λ (m : ℕ). Some m) (omega (arith, k)) }
+
+pub from_zero : (n : ℕ) (table : List (List Name)) (i : ℕ) → i < total table → (d : ℕ) × (p : ℕ) × (slice_get (own_from 0 (map length table) d) p ≡ Some i)
+from_zero n table i h = let d = declared 0 n table i h in (d.class, d.place, d.stands ∙ ap (λ (m : ℕ). Some m) (omega arith))
