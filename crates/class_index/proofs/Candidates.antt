@@ -1,9 +1,9 @@
 -- What names give in the classes of a part, among what bears the names.
-use Rattle.std.proofs.Common.{◌≡◌, ◌<◌, ◌≤◌, ◌+◌, ◌-◌, ◌⊎◌, inl, inr, ℕ, zero, suc, refl, sym, subst, ap, ap₂, ◌∙◌, cond, Bool, true, false, ◌||◌, ◌&&◌, ◌==◌, Some, None, Option, List, [], ◌∷◌, ◌++◌, map, filter, length, slice_get, get_or, arith, length-append, replicate, option_map, reverse, if◌then◌else◌}
+use Rattle.std.proofs.Common.{◌≡◌, ◌<◌, ◌≤◌, ◌+◌, ◌-◌, ◌⊎◌, inl, inr, ℕ, zero, suc, refl, sym, subst, ap, ap₂, ◌∙◌, cond, Bool, true, false, ◌||◌, ◌&&◌, ◌==◌, Some, None, Option, List, [], ◌∷◌, ◌++◌, map, filter, length, slice_get, get_or, arith, length-append, replicate, option_map, reverse, take, if◌then◌else◌}
 use Rattle.std.specs.List.{list_any, list_all, flat_map}
 use Rattle.std.proofs.lemmas.Bool.{eqb-true, eq-eqb}
-use Rattle.std.proofs.lemmas.List.{length-map}
-use Rattle.std.proofs.lemmas.Option.{get_or_from_slice_get, slice_get-map}
+use Rattle.std.proofs.lemmas.List.{length-map, take_all}
+use Rattle.std.proofs.lemmas.Option.{get_or_from_slice_get, slice_get-get_or, slice_get-map}
 use Rattle.type_lattice.specs.declared.types.ObjPart.{ObjPart}
 use Rattle.type_lattice.specs.Classes.{Tree, Forest, has, below, chain, flat}
 use Rattle.type_lattice.specs.Member.{obj_in}
@@ -22,10 +22,10 @@ use Rattle.hhbc_repo.proofs.Numbering.{numbers_on}
 use Rattle.hhbc_repo.proofs.Placed.{counts_are, tables_count}
 use Rattle.class_index.specs.Named.{Names, NoName, OneName, AnyName, classes, gives, is_called, is_given, is_number, takes, targets}
 use Rattle.class_index.specs.Named as named
-use Rattle.class_index.specs.Reached.{borne, is_entered, is_reached, owner_at, reaches, reaches_from}
+use Rattle.class_index.specs.Reached.{borne, is_entered, is_met, is_reached, owner_at, reaches, reaches_from}
 use Rattle.class_index.proofs.PartsReached.{IsHad, any_from, reached}
 use Rattle.class_index.proofs.Tables.{declared, from_zero, stands}
-use Rattle.class_index.proofs.NamesReached.{all_is_had, alone, finds, found_is_had, has_name, in_tree, not_before, is_some_number}
+use Rattle.class_index.proofs.NamesReached.{all_is_had, all_is_below, alone, finds, found_is_had, has_name, in_tree, not_before, is_some_number}
 
 -- ---- filters
 
@@ -103,14 +103,14 @@ module _ (first : ℕ) (table : List (List Name)) (tree : Tree) (forest : Forest
 
   pub nothing_else : (part : ObjPart) (i : ℕ) (other : Name) → slice_get (together table) i ≡ Some other → is_name name other ≡ false → class_finds part (first + i) ≡ false
   nothing_else part i other h k = false_if_not (class_finds part (first + i)) (λ m.
-    let l = within_list (together table) i other h in
-    let z = together_count table in
-    let d = declared first 0 table i (omega (arith, l, z)) in
-    let w = any_from (finding (first + i)) (λ c. obj_in tree (Some c) part) (numbers 0 (length tree)) m in
-    let v = given (own_number first table name) (chain tree w.0) (first + i) (is_some_number (inherited first table tree w.0 name) (first + i) w.2) in
-    let n = has_name first table name d.class d.place (first + i) other (stands first 0 table d.class d.place (first + i) d.stands) i refl h v.0 v.2 in
-    let x : true ≡ false = sym n ∙ k in
-    absurd (cc))
+      let l = within_list (together table) i other h in
+      let z = together_count table in
+      let d = declared first 0 table i (omega (arith, l, z)) in
+      let w = any_from (finding (first + i)) (λ c. obj_in tree (Some c) part) (numbers 0 (length tree)) m in
+      let v = given (own_number first table name) (chain tree w.0) (first + i) (is_some_number (inherited first table tree w.0 name) (first + i) w.2) in
+      let n = has_name first table name d.class d.place (first + i) other (stands first 0 table d.class d.place (first + i) d.stands) i refl h v.0 v.2 in
+      let x : true ≡ false = sym n ∙ k in
+      absurd (cc))
 
   pub those_named : (part : ObjPart) (i : ℕ) (other : Name) → slice_get (together table) i ≡ Some other → is_name name other ≡ true
       → (d : ℕ) → slice_get (property_owners_from 0 table) i ≡ Some d → class_finds part (first + i) ≡ reaches tree part (finding (first + i)) d
@@ -155,15 +155,28 @@ module _ (r : Linked) (sound : Sound r) where
   one_name part name = record {
     others = λ i other h k. nothing_else 0 (all_properties r) (tree_of r) sound.forest properties_differ tree_count name part i other h k;
     bearers = λ i other h k.
-      let l = within_list (together (all_properties r)) i other h in
-      let z = together_count (all_properties r) in
-      those_named 0 (all_properties r) (tree_of r) sound.forest properties_differ tree_count name part i other h k (owner_at r (0 + i))
-      (owned i (omega (arith, l, z)) ∙ ap (λ (j : ℕ). Some (owner_at r j)) (on i));
+        let l = within_list (together (all_properties r)) i other h in
+        let z = together_count (all_properties r) in
+        those_named 0 (all_properties r) (tree_of r) sound.forest properties_differ tree_count name part i other h k (owner_at r (0 + i))
+        (owned i (omega (arith, l, z)) ∙ ap (λ (j : ℕ). Some (owner_at r j)) (on i));
   }
-
     where
       on : (i : ℕ) → i ≡ 0 + i
       on i = omega arith
+
+  pub has_below : (c q : ℕ) → q < total (all_properties r) → gives r AnyName q c ≡ below (tree_of r) c (owner_at r q)
+  has_below c q h =
+      let d = from_zero 0 (all_properties r) q h in
+      let s = stands 0 0 (all_properties r) d.0 d.1 q d.2 in
+      let number = s.number in
+      let at : s.at ≡ q = omega (arith, number) in
+      let zero_on : d.0 ≡ 0 + d.0 = omega arith in
+      let e : slice_get (property_owners r) q ≡ Some (0 + d.0) = ap (slice_get (property_owners r)) (sym at) ∙ s.owner in
+      let o : d.0 ≡ owner_at r q = zero_on ∙ sym (get_or_from_slice_get (property_owners r) q (0 + d.0) 0 e) in
+      let k = s.class in
+      let inside : d.0 < length (tree_of r) = omega (arith, k, tree_count) in
+      subst (λ (ns : List ℕ). has q (flat_map (λ d. own_from 0 ns d) (reverse (chain (tree_of r) c))) ≡ below (tree_of r) c (owner_at r q)) (counts_are r)
+      (all_is_below 0 (all_properties r) (tree_of r) sound.forest d.0 d.1 q inside d.2 c ∙ ap (below (tree_of r) c) o)
 
   any_name : (part : ObjPart) (q : ℕ) → q < total (all_properties r) → is_given r part AnyName q ≡ is_reached r part AnyName q
   any_name part q h =
@@ -250,9 +263,6 @@ module _ (r : Linked) (sound : Sound r) where
     abbrev is_target : ℕ → Bool
     is_target n = is_called r part name n && takes (body_at r n) count
 
-    abbrev is_met : ℕ → Bool
-    is_met n = is_entered r part name n && takes (body_at r n) count
-
     no_function : (n : ℕ) → n < length r.functions → is_target n ≡ false
     no_function n h = ap (λ (b : Bool). b && takes (body_at r n) count) (false_if_not (is_called r part name n) none)
       where
@@ -266,10 +276,10 @@ module _ (r : Linked) (sound : Sound r) where
     inside_all : (i : ℕ) → i < length (together (all_methods r)) → i < total (all_methods r)
     inside_all i h = subst (λ (k : ℕ). i < k) (together_count (all_methods r)) h
 
-    agrees : Agrees is_target is_met name (length r.functions) (together (all_methods r))
+    agrees : Agrees is_target (is_met r part name count) name (length r.functions) (together (all_methods r))
     agrees = record {
       others = λ i other h k. ap (λ (b : Bool). b && takes (body_at r (length r.functions + i)) count)
-        (nothing_else (length r.functions) (all_methods r) (tree_of r) sound.forest methods_differ methods_count name part i other h k);
+          (nothing_else (length r.functions) (all_methods r) (tree_of r) sound.forest methods_differ methods_count name part i other h k);
       bearers = λ i other h k. ap (λ (b : Bool). b && takes (body_at r (length r.functions + i)) count) (there i other h k);
     }
       where
@@ -285,13 +295,13 @@ module _ (r : Linked) (sound : Sound r) where
             those_named (length r.functions) (all_methods r) (tree_of r) sound.forest methods_differ methods_count name part i other h k (0 + d.0) e
             ∙ ap (reaches_from (tree_of r) part (λ c. is_number (method_of r c name) (length r.functions + i))) (sym (method_owner i (0 + d.0) e))
 
-    pub bodies_entered : filter is_met (methods_named r name) ≡ targets r part name count
+    pub bodies_entered : filter (is_met r part name count) (methods_named r name) ≡ targets r part name count
     bodies_entered =
         let m = methods_total r.classes in
         let z = together_count (all_methods r) in
         let w = length-append r.functions (methods_in r.classes) in
         let e : length (together (all_methods r)) ≡ length (methods_in r.classes) = omega (arith, z, m) in
-        sieve is_target is_met name (length r.functions) (together (all_methods r)) agrees
+        sieve is_target (is_met r part name count) name (length r.functions) (together (all_methods r)) agrees
         ∙ ap (λ (k : ℕ). filter is_target (numbers (length r.functions) k)) e
         ∙ ap (λ (xs : List ℕ). xs ++ filter is_target (numbers (length r.functions) (length (methods_in r.classes)))) (sym (filter_none is_target 0 (length r.functions) (λ q a b. no_function q (omega (arith, b)))))
         ∙ ap (λ (k : ℕ). filter is_target (numbers 0 (length r.functions)) ++ filter is_target (numbers k (length (methods_in r.classes)))) on
@@ -301,3 +311,43 @@ module _ (r : Linked) (sound : Sound r) where
       where
         on : length r.functions ≡ 0 + length r.functions
         on = omega arith
+
+-- ---- what bears a name is in range
+
+bearers_within : (n : ℕ) (ns : List Name) (name : Name) (i q : ℕ) → slice_get (bearers n ns name) i ≡ Some q → (n ≤ q) × (q < n + length ns)
+bearers_within n [] name i q e = absurd (cc)
+bearers_within n (other ∷ ns) name i q e = go (is_name name other) i e (λ j k. bearers_within (suc n) ns name j q k)
+  where
+    later : (suc n ≤ q) × (q < suc n + length ns) → (n ≤ q) × (q < n + suc (length ns))
+    later w = let a = w.0 in let b = w.1 in (omega (arith, a), omega (arith, b))
+
+    go : (b : Bool) (i : ℕ) → slice_get ((if b then n ∷ [] else []) ++ bearers (suc n) ns name) i ≡ Some q
+        → ((j : ℕ) → slice_get (bearers (suc n) ns name) j ≡ Some q → (suc n ≤ q) × (q < suc n + length ns)) → (n ≤ q) × (q < n + suc (length ns))
+    go true zero k more = let m : n ≡ q = cc in (omega (arith, m), omega (arith, m))
+    go true (suc j) k more = later (more j k)
+    go false j k more = later (more j k)
+
+numbers_within : (s k p q : ℕ) → slice_get (numbers s k) p ≡ Some q → q < s + k
+numbers_within s zero p q e = absurd (cc)
+numbers_within s (suc k) zero q e = let m : s ≡ q = cc in omega (arith, m)
+numbers_within s (suc k) (suc p) q e = let w = numbers_within (suc s) k p q e in omega (arith, w)
+
+pub borne_within : (r : Linked) (names : Names) (i q : ℕ) → slice_get (borne r names) i ≡ Some q → q < total (all_properties r)
+borne_within r NoName i q e = absurd (cc)
+borne_within r (OneName name) i q e = let w = (bearers_within 0 (together (all_properties r)) name i q e).1 in let z = together_count (all_properties r) in omega (arith, w, z)
+borne_within r AnyName i q e = let w = numbers_within 0 (total (all_properties r)) i q e in omega (arith, w)
+
+pub methods_within : (r : Linked) (name : Name) (i n : ℕ) → slice_get (methods_named r name) i ≡ Some n → n < length (bodies r)
+methods_within r name i n e =
+    let w = (bearers_within (length r.functions) (together (all_methods r)) name i n e).1 in
+    let z = together_count (all_methods r) in
+    let m = methods_total r.classes in
+    let l = length-append r.functions (methods_in r.classes) in
+    omega (arith, w, z, m, l)
+
+pub method_within : (r : Linked) (name : Name) (ms : List ℕ) (i : ℕ) → ms ≡ methods_named r name → i < length ms → get_or ms i 0 < length (bodies r)
+method_within r name ms i e h = methods_within r name i (get_or ms i 0) (ap (λ (ns : List ℕ). slice_get ns i) (sym e) ∙ slice_get-get_or ms i 0 h)
+
+pub all_entered : (r : Linked) → Sound r → (part : ObjPart) (name : Name) (count : ℕ) (ms : List ℕ) (i : ℕ) → ms ≡ methods_named r name → length ms ≤ i
+    → filter (is_met r part name count) (take i ms) ≡ targets r part name count
+all_entered r sound part name count ms i e h = ap (filter (is_met r part name count)) (take_all i ms h ∙ e) ∙ bodies_entered r sound part name count

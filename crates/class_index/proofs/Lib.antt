@@ -2,3 +2,5 @@ pub mod Tables
 pub mod PartsReached
 pub mod NamesReached
 pub mod Candidates
+pub mod ByKey
+pub mod Joining

@@ -20,7 +20,7 @@ use Rattle.hhbc_repo.proofs.MethodsFound.{given}
 use Rattle.hhbc_repo.proofs.Placed.{Apart, chain_apart}
 use Rattle.hhbc_repo.proofs.TypesForth.{place_of_number}
 use Rattle.class_index.specs.Named.{is_number}
-use Rattle.class_index.proofs.PartsReached.{IsHad, either, or_left, or_right}
+use Rattle.class_index.proofs.PartsReached.{IsHad, both_ways, either, or_left, or_right}
 use Rattle.class_index.proofs.Tables.{Stands, stands, split_at}
 
 same_name : (name other : Name) → is_name name other ≡ true → name ≡ other
@@ -242,3 +242,6 @@ module _ (first : ℕ) (table : List (List Name)) where
 
     pub all_is_had : ((c : ℕ) → below tree c d ≡ true → c < length tree) → below tree d d ≡ true → IsHad tree (λ c. has q (flat_map own (reverse (chain tree c)))) d
     all_is_had known here = record { inside = inside; here = back d here; above = onto; known = λ c g. known c (onto c g); between = λ b c g k l. back c l }
+
+    pub all_is_below : (c : ℕ) → had c ≡ below tree c d
+    all_is_below c = both_ways (had c) (below tree c d) (onto c) (back c)

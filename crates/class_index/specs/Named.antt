@@ -8,6 +8,8 @@ use Rattle.type_lattice.specs.declared.types.ObjPart.{ObjPart}
 use Rattle.type_lattice.specs.Classes.{has}
 use Rattle.type_lattice.specs.Types.{short_bytes, cell}
 use Rattle.type_lattice.specs.Member.{obj_in}
+use Rattle.class_index.specs.declared.keys.TypeKey.{TypeKey}
+use Rattle.class_index.specs.declared.keys.TypeKey.TheVariants as keys
 use Rattle.hhbc_repo.specs.declared.body.Body.{Body}
 use Rattle.hhbc_repo.specs.Linked.{Linked}
 use Rattle.hhbc_repo.specs.LinkFaults.{Name}
@@ -28,6 +30,14 @@ abbrev pub names_of : StrPart → Names
 names_of strs.No = NoName
 names_of (strs.One s) = OneName (short_bytes s)
 names_of strs.Any = AnyName
+
+-- the names that a key gives of properties
+abbrev pub key_names : TypeKey → Names
+key_names (keys.Elem k) = NoName
+key_names (keys.Prop k) = names_of k.str
+key_names (keys.PropName name) = OneName name
+key_names (keys.Nullsafe name) = OneName name
+key_names keys.Append = NoName
 
 abbrev pub is_number : Option ℕ → ℕ → Bool
 is_number None n = false

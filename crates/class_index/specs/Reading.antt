@@ -2,6 +2,7 @@
 use Rattle.std.specs.Prelude.{Bool, true, false, List, [], ◌∷◌, Option, Some, None, map}
 use Rattle.type_lattice.specs.declared.types.Leaf.{Leaf}
 use Rattle.type_lattice.specs.declared.types.HType.{HType}
+use Rattle.type_lattice.specs.declared.types.ObjPart.{ObjPart}
 use Rattle.type_lattice.specs.Classes.{Tree}
 use Rattle.type_lattice.specs.Types.{never}
 use Rattle.type_lattice.specs.Join.{join}
@@ -29,15 +30,15 @@ abbrev pub null_if : Bool → HType
 null_if flag = record never { null = flag }
 
 module _ (r : Linked) (props : List HType) where
-  abbrev pub property_type : HType → Names → HType
-  property_type t names = joins (tree_of r) (map (fact props) (given r t.obj names))
+  abbrev pub property_type : ObjPart → Names → HType
+  property_type part names = joins (tree_of r) (map (fact props) (given r part names))
 
   -- one step; a null-safe key gives Null at Null
   abbrev pub step_type : HType → TypeKey → HType
   step_type t (keys.Elem k) = element_type (tree_of r) t k
-  step_type t (keys.Prop k) = property_type t (names_of k.str)
-  step_type t (keys.PropName name) = property_type t (OneName name)
-  step_type t (keys.Nullsafe name) = join (tree_of r) (property_type t (OneName name)) (null_if t.null)
+  step_type t (keys.Prop k) = property_type t.obj (names_of k.str)
+  step_type t (keys.PropName name) = property_type t.obj (OneName name)
+  step_type t (keys.Nullsafe name) = join (tree_of r) (property_type t.obj (OneName name)) (null_if t.null)
   step_type t keys.Append = never
 
   -- step by step

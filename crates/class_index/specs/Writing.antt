@@ -14,7 +14,7 @@ use Rattle.class_index.specs.declared.keys.TypeKey.{TypeKey}
 use Rattle.class_index.specs.declared.keys.TypeKey.TheVariants as keys
 use Rattle.class_index.specs.declared.effects.Effect.{Effect}
 use Rattle.class_index.specs.Leaves.{type_of, leaf_of, key_of, has_int, has_key, joins}
-use Rattle.class_index.specs.Named.{Names, NoName, OneName, names_of, given, fact}
+use Rattle.class_index.specs.Named.{Names, OneName, names_of, key_names, given, fact}
 use Rattle.class_index.specs.Reading.{value_of}
 
 -- a part that the key fits, changed
@@ -35,14 +35,6 @@ some_of (a ∷ more) = true
 -- the type where the property is among these
 abbrev pub only_at : ℕ → List ℕ → HType → HType
 only_at q qs t = cond (has q qs) t never
-
--- the names that a key gives of properties
-abbrev pub key_names : TypeKey → Names
-key_names (keys.Elem k) = NoName
-key_names (keys.Prop k) = names_of k.str
-key_names (keys.PropName name) = OneName name
-key_names (keys.Nullsafe name) = OneName name
-key_names keys.Append = NoName
 
 -- ---- the last key
 
