@@ -18,28 +18,31 @@ use Rattle.class_index.specs.Reached.{borne, gathered, is_reached}
 use Rattle.class_index.proofs.Candidates.{properties_reached}
 
 module _ (tree : Tree) (forest : Forest tree) where
-  abbrev order = le_is_order tree forest
-  abbrev above = (join_is_least_above tree forest).0
+  ordered : IsOrder (Le tree) never
+  ordered = le_is_order tree forest
+
+  bounded : IsLeastAbove (Le tree) (IsProper tree) (join tree)
+  bounded = (join_is_least_above tree forest).0
 
   pub join_never : (a : HType) → join tree a never ≡ a
-  join_never a = order.equal (join tree a never) a (above.least a never a (order.same a) (order.lowest a)) (above.left a never)
+  join_never a = ordered.equal (join tree a never) a (bounded.least a never a (ordered.same a) (ordered.lowest a)) (bounded.left a never)
 
   pub never_join : (a : HType) → join tree never a ≡ a
-  never_join a = order.equal (join tree never a) a (above.least never a a (order.lowest a) (order.same a)) (above.right never a)
+  never_join a = ordered.equal (join tree never a) a (bounded.least never a a (ordered.lowest a) (ordered.same a)) (bounded.right never a)
 
   pub join_assoc : (a b c : HType) → join tree (join tree a b) c ≡ join tree a (join tree b c)
   join_assoc a b c =
-      order.equal (join tree (join tree a b) c) (join tree a (join tree b c))
-      (above.least (join tree a b) c (join tree a (join tree b c))
-      (above.rises a b a (join tree b c) (order.same a) (above.left b c))
-      (order.onward c (join tree b c) (join tree a (join tree b c)) (above.right b c) (above.right a (join tree b c))))
-      (above.least a (join tree b c) (join tree (join tree a b) c)
-      (order.onward a (join tree a b) (join tree (join tree a b) c) (above.left a b) (above.left (join tree a b) c))
-      (above.rises b c (join tree a b) c (above.right a b) (order.same c)))
+      ordered.equal (join tree (join tree a b) c) (join tree a (join tree b c))
+      (bounded.least (join tree a b) c (join tree a (join tree b c))
+      (bounded.rises a b a (join tree b c) (ordered.same a) (bounded.left b c))
+      (ordered.onward c (join tree b c) (join tree a (join tree b c)) (bounded.right b c) (bounded.right a (join tree b c))))
+      (bounded.least a (join tree b c) (join tree (join tree a b) c)
+      (ordered.onward a (join tree a b) (join tree (join tree a b) c) (bounded.left a b) (bounded.left (join tree a b) c))
+      (bounded.rises b c (join tree a b) c (bounded.right a b) (ordered.same c)))
 
   pub join_swap : (a b : HType) → join tree a b ≡ join tree b a
   join_swap a b =
-      order.equal (join tree a b) (join tree b a) (above.least a b (join tree b a) (above.right b a) (above.left b a)) (above.least b a (join tree a b) (above.right a b) (above.left a b))
+      ordered.equal (join tree a b) (join tree b a) (bounded.least a b (join tree b a) (bounded.right b a) (bounded.left b a)) (bounded.least b a (join tree a b) (bounded.right a b) (bounded.left a b))
 
   pub joins_both : (xs ys : List HType) → joins tree (xs ++ ys) ≡ join tree (joins tree xs) (joins tree ys)
   joins_both [] ys = sym (never_join (joins tree ys))

@@ -1,4 +1,4 @@
-use Rattle.std.proofs.Common.{◌∙◌, ◌+◌, sym, ap, drop}
+use Rattle.std.proofs.Common.{◌∙◌, ◌+◌, ◌≤◌, ℕ, subst, sym, ap, drop}
 use Rattle.type_lattice.specs.Types.{never}
 use Rattle.hhbc_repo.proofs.Borne.{none_left}
 use Rattle.class_index.specs.Named.{key_names}
@@ -19,6 +19,6 @@ returns c =
     let names = key_names c.args.key.now in
     let qs = borne c.args.repo.now names in
     sym (gathered_end c.args.repo.now c.is_sound.ensures.sound c.args.facts.now.props c.args.part names c.loop-at.all)
-    ∙ ap (gathered c.args.repo.now c.args.facts.now.props c.args.part names c.loop-at.all) (sym (none_left c.loop-at.at qs c.loop-at-test.false))
+    ∙ ap (gathered c.args.repo.now c.args.facts.now.props c.args.part names c.loop-at.all) (sym (none_left c.loop-at.at qs (subst (λ (n : ℕ). n ≤ c.loop-at.at) c.count_borne-at-end.ensures c.loop-at-test.false)))
     ∙ c.loop-at.invariant
     ∙ gathered_start c.args.repo.now c.is_sound.ensures.sound c.args.facts.now.props c.args.part names
