@@ -1,5 +1,5 @@
 -- What keys give, where the names of a key are known.
-use Rattle.std.proofs.Common.{◌≡◌, ◌<◌, ◌+◌, ◌^◌, ℕ, zero, suc, refl, sym, subst, ap, ◌∙◌, Bool, ◌==◌, Some, None, Option, List, length, slice_get, arith}
+use Rattle.std.proofs.Common.{◌≡◌, ◌<◌, ◌^◌, ℕ, sym, ap, ◌∙◌, ◌==◌, Some, Option, length, slice_get, arith}
 use Rattle.std.proofs.lemmas.Option.{get_or_from_slice_get}
 use Rattle.type_lattice.specs.declared.types.HType.{HType}
 use Rattle.type_lattice.specs.declared.types.StrPart.TheVariants as strs

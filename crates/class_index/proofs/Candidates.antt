@@ -1,5 +1,5 @@
 -- What names give in the classes of a part, among what bears the names.
-use Rattle.std.proofs.Common.{◌≡◌, ◌<◌, ◌≤◌, ◌+◌, ◌-◌, ◌⊎◌, inl, inr, ℕ, zero, suc, refl, sym, subst, ap, ap₂, ◌∙◌, cond, Bool, true, false, ◌||◌, ◌&&◌, ◌==◌, Some, None, Option, List, [], ◌∷◌, ◌++◌, map, filter, length, slice_get, get_or, arith, length-append, replicate, option_map, reverse, take, if◌then◌else◌}
+use Rattle.std.proofs.Common.{◌≡◌, ◌<◌, ◌≤◌, ◌+◌, ℕ, zero, suc, refl, sym, subst, ap, ap₂, ◌∙◌, cond, Bool, true, false, ◌&&◌, ◌==◌, Some, None, Option, List, [], ◌∷◌, ◌++◌, map, filter, length, slice_get, get_or, arith, length-append, replicate, option_map, reverse, take, if◌then◌else◌}
 use Rattle.std.specs.List.{list_any, list_all, flat_map}
 use Rattle.std.proofs.lemmas.Bool.{eqb-true, eq-eqb}
 use Rattle.std.proofs.lemmas.List.{length-map, take_all}
@@ -12,10 +12,10 @@ use Rattle.hhbc_repo.specs.declared.body.Body.{Body}
 use Rattle.hhbc_repo.specs.declared.repo.Class.{Class}
 use Rattle.hhbc_repo.specs.Linked.{Linked}
 use Rattle.hhbc_repo.specs.Names.{distinct}
-use Rattle.hhbc_repo.specs.Bodies.{bodies, body_at, class_names, numbers, own_from, properties_of, property_counts, tree_of}
+use Rattle.hhbc_repo.specs.Bodies.{bodies, body_at, numbers, own_from, tree_of}
 use Rattle.hhbc_repo.specs.LinkFaults.{Name, is_name}
-use Rattle.hhbc_repo.specs.LookUps.{Sound, all_methods, all_properties, first_some, inherited, method_names, method_of, methods_in, own_number, owners, owners_from, property_of, property_owners, property_owners_from, total}
-use Rattle.hhbc_repo.specs.Places.{bearers, methods_named, properties_named, together}
+use Rattle.hhbc_repo.specs.LookUps.{Sound, all_methods, all_properties, inherited, method_names, method_of, methods_in, own_number, owners, owners_from, property_owners, property_owners_from, total}
+use Rattle.hhbc_repo.specs.Places.{bearers, methods_named, together}
 use Rattle.hhbc_repo.proofs.Inherited.{inherited_here}
 use Rattle.hhbc_repo.proofs.MethodsFound.{given}
 use Rattle.hhbc_repo.proofs.Numbering.{numbers_on}

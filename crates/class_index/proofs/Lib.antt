@@ -4,3 +4,5 @@ pub mod NamesReached
 pub mod Candidates
 pub mod ByKey
 pub mod Joining
+pub mod TargetLaws
+pub mod ReadingLaws

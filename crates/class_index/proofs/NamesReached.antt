@@ -1,21 +1,19 @@
 -- What a name finds on the way up from a class, told from the class that declares it.
-use Rattle.std.proofs.Common.{◌≡◌, ◌<◌, ◌≤◌, ◌+◌, ◌⊎◌, inl, inr, ℕ, zero, suc, refl, sym, subst, ap, ap₂, ◌∙◌, Bool, true, false, ◌||◌, ◌&&◌, ◌==◌, Some, None, Option, List, [], ◌∷◌, ◌++◌, map, length, reverse, slice_get, get_or, arith}
-use Rattle.std.specs.Prelude.{nat_lt}
+use Rattle.std.proofs.Common.{◌≡◌, ◌<◌, ◌≤◌, ◌+◌, ◌⊎◌, inl, inr, ℕ, zero, suc, refl, sym, subst, ap, ◌∙◌, Bool, true, false, ◌||◌, ◌&&◌, ◌==◌, Some, None, Option, List, [], ◌∷◌, ◌++◌, map, length, reverse, slice_get, get_or, arith}
 use Rattle.std.specs.List.{list_all, flat_map}
 use Rattle.std.proofs.lemmas.Bool.{eqb-true, eq-eqb, lt-ltb}
 use Rattle.std.proofs.lemmas.List.{reverse-append, append-nil}
 use Rattle.std.proofs.lemmas.List.Quantifiers.{position-Some}
 use Rattle.std.proofs.lemmas.Grind.{flat_map-append}
-use Rattle.std.proofs.lemmas.Option.{slice_get_past, slice_get_within, slice_get-get_or, get_or_from_slice_get}
-use Rattle.type_lattice.specs.Classes.{Tree, Forest, has, below, chain, parent_of, flat}
+use Rattle.std.proofs.lemmas.Option.{slice_get_past, get_or_from_slice_get}
+use Rattle.type_lattice.specs.Classes.{Tree, Forest, has, below, chain, flat}
 use Rattle.type_lattice.specs.TypeText.{class_name, named}
 use Rattle.type_lattice.proofs.Chains.{part, chain_root}
 use Rattle.hhbc_repo.specs.Names.{distinct}
-use Rattle.hhbc_repo.specs.Bodies.{numbers, own_from}
+use Rattle.hhbc_repo.specs.Bodies.{own_from}
 use Rattle.hhbc_repo.specs.LinkFaults.{Name, is_name, place_in, at_class}
-use Rattle.hhbc_repo.specs.LookUps.{first_some, inherited, number_at, or_else, own_number, property_owners_from, total}
+use Rattle.hhbc_repo.specs.LookUps.{first_some, number_at, or_else, own_number, property_owners_from}
 use Rattle.hhbc_repo.specs.Places.{together}
-use Rattle.hhbc_repo.proofs.Inherited.{inherited_here}
 use Rattle.hhbc_repo.proofs.MethodsFound.{given}
 use Rattle.hhbc_repo.proofs.Placed.{Apart, chain_apart}
 use Rattle.hhbc_repo.proofs.TypesForth.{place_of_number}
@@ -36,7 +34,7 @@ pub is_some_number : (o : Option ℕ) (q : ℕ) → is_number o q ≡ true → o
 is_some_number None q h = absurd (cc)
 is_some_number (Some m) q h = ap (λ (k : ℕ). Some k) (eqb-true m q h)
 
-number_is : (o : Option ℕ) (q : ℕ) → o ≡ Some q → is_number o q ≡ true
+pub number_is : (o : Option ℕ) (q : ℕ) → o ≡ Some q → is_number o q ≡ true
 number_is None q h = absurd (cc)
 number_is (Some m) q h = eq-eqb m q (some_same m q h)
 
@@ -222,7 +220,7 @@ module _ (first : ℕ) (table : List (List Name)) where
           let v = place_has q (own c) k in
           or_left (d == c) (has d cs) (eq-eqb d c (sym (same_class d p c v.0 q w (stands first 0 table c v.0 q v.1))))
 
-  to_along : (q d p : ℕ) → slice_get (own d) p ≡ Some q → (cs : List ℕ) → has d cs ≡ true → has q (along cs) ≡ true
+  pub to_along : (q d p : ℕ) → slice_get (own d) p ≡ Some q → (cs : List ℕ) → has d cs ≡ true → has q (along cs) ≡ true
   to_along q d p w [] h = absurd (cc)
   to_along q d p w (c ∷ cs) h = ap (has q) (along_step c cs) ∙ has_both q (along cs) (own c) ∙ go (either (d == c) (has d cs) h) (λ k. to_along q d p w cs k)
     where

@@ -1,5 +1,5 @@
 -- What some class of a part gives, told from the class that declares it.
-use Rattle.std.proofs.Common.{◌≡◌, ◌<◌, ◌≤◌, ◌+◌, ◌⊎◌, inl, inr, ℕ, zero, suc, refl, sym, subst, ap, ◌∙◌, cond, Bool, true, false, ◌||◌, ◌==◌, Some, None, List, [], ◌∷◌, filter, length, arith}
+use Rattle.std.proofs.Common.{◌≡◌, ◌<◌, ◌≤◌, ◌+◌, ◌⊎◌, inl, inr, ℕ, zero, suc, refl, sym, subst, ◌∙◌, cond, Bool, true, false, ◌||◌, ◌==◌, Some, List, [], ◌∷◌, filter, length, arith}
 use Rattle.std.specs.List.{list_any}
 use Rattle.std.proofs.lemmas.Bool.{eqb-true, eq-eqb}
 use Rattle.type_lattice.specs.declared.types.ObjPart.{ObjPart}

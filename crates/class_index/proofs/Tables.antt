@@ -1,12 +1,9 @@
 -- Members that classes declare, by number: the class of each, and its name.
-use Rattle.std.proofs.Common.{◌≡◌, ◌<◌, ◌≤◌, ◌+◌, ◌-◌, ◌⊎◌, inl, inr, ℕ, zero, suc, refl, sym, subst, ap, ◌∙◌, Bool, true, false, Some, None, Option, List, [], ◌∷◌, ◌++◌, map, length, replicate, slice_get, get_or, arith}
-use Rattle.std.specs.List.{list_all}
-use Rattle.std.proofs.lemmas.List.Quantifiers.{position-Some}
-use Rattle.std.proofs.lemmas.Option.{slice_get-get_or, slice_get_within, get_or_from_slice_get}
-use Rattle.hhbc_repo.specs.Names.{distinct}
+use Rattle.std.proofs.Common.{◌≡◌, ◌<◌, ◌≤◌, ◌+◌, ◌-◌, ◌⊎◌, inl, inr, ℕ, zero, suc, refl, sym, ap, ◌∙◌, Some, List, [], ◌∷◌, ◌++◌, map, length, replicate, slice_get, get_or, arith}
+use Rattle.std.proofs.lemmas.Option.{slice_get-get_or}
 use Rattle.hhbc_repo.specs.Bodies.{numbers, own_from}
-use Rattle.hhbc_repo.specs.LinkFaults.{Name, is_name, place_in, at_class}
-use Rattle.hhbc_repo.specs.LookUps.{number_at, own_number, property_owners_from, total}
+use Rattle.hhbc_repo.specs.LinkFaults.{Name, at_class}
+use Rattle.hhbc_repo.specs.LookUps.{property_owners_from, total}
 use Rattle.hhbc_repo.specs.Places.{together}
 use Rattle.hhbc_repo.proofs.Numbered.{numbers-get}
 use Rattle.hhbc_repo.proofs.Elements.{before_last}

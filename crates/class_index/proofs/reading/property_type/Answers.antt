@@ -1,5 +1,4 @@
 use Rattle.std.proofs.Common.{◌∙◌, ◌+◌, ◌≤◌, ℕ, subst, sym, ap, drop}
-use Rattle.type_lattice.specs.Types.{never}
 use Rattle.hhbc_repo.proofs.Borne.{none_left}
 use Rattle.class_index.specs.Named.{key_names}
 use Rattle.class_index.specs.Reached.{borne, gathered}
