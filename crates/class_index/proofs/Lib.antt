@@ -6,3 +6,4 @@ pub mod ByKey
 pub mod Joining
 pub mod TargetLaws
 pub mod ReadingLaws
+pub mod WritingLaws

@@ -43,10 +43,10 @@ module _ (tree : Tree) (forest : Forest tree) where
   onward_type : (a b c : HType) → Le tree a b → Le tree b c → Le tree a c
   onward_type = (le_is_order tree forest).onward
 
-  never_lowest : (a : HType) → Le tree never a
+  pub never_lowest : (a : HType) → Le tree never a
   never_lowest = (le_is_order tree forest).lowest
 
-  join_rises : (a b c d : HType) → Le tree a c → Le tree b d → Le tree (join tree a b) (join tree c d)
+  pub join_rises : (a b c d : HType) → Le tree a c → Le tree b d → Le tree (join tree a b) (join tree c d)
   join_rises = ((join_is_least_above tree forest).0).rises
 
   -- ---- parts
@@ -171,7 +171,7 @@ module _ (r : Linked) (sound : Sound r) where
       go d m None e = absurd (cc)
       go d m (Some p) e = to_along 0 (all_properties r) q d p e (chain (tree_of r) c) m
 
-  names_rise : (a b : StrPart) → StrLe a b → (q c : ℕ) → gives r (names_of a) q c ≡ true → gives r (names_of b) q c ≡ true
+  pub names_rise : (a b : StrPart) → StrLe a b → (q c : ℕ) → gives r (names_of a) q c ≡ true → gives r (names_of b) q c ≡ true
   names_rise strs.No b h q c k = absurd (cc)
   names_rise (strs.One s) strs.No h q c k = absurd (h)
   names_rise (strs.One s) (strs.One t) h q c k = subst (λ x. gives r (names_of (strs.One x)) q c ≡ true) h k
@@ -193,7 +193,7 @@ module _ (r : Linked) (sound : Sound r) where
   properties_rise F G facts a b n m h f =
       joins_rise (tree_of r) sound.forest (fact F) (fact G) (named.given r a n) (named.given r b m) (λ q k. (given_rises a b n m h f q k, facts q))
 
-  one_name : (s n : Name) → s ≡ n → (q c : ℕ) → gives r (OneName s) q c ≡ true → gives r (OneName n) q c ≡ true
+  pub one_name : (s n : Name) → s ≡ n → (q c : ℕ) → gives r (OneName s) q c ≡ true → gives r (OneName n) q c ≡ true
   one_name s n e q c k = subst (λ (x : Name). gives r (OneName x) q c ≡ true) e k
 
   step_rises : (F G : List HType) → FactsLe r F G → (t u : HType) → Le (tree_of r) t u → (k l : TypeKey) → KeyLe r k l → Le (tree_of r) (step_type r F t k) (step_type r G u l)

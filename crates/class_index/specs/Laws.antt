@@ -14,6 +14,7 @@ use Rattle.class_index.specs.declared.keys.TypeKey.{TypeKey}
 use Rattle.class_index.specs.declared.keys.TypeKey.TheVariants as keys
 use Rattle.class_index.specs.Named.{targets, fact}
 use Rattle.class_index.specs.Reading.{path_type}
+use Rattle.class_index.specs.Writing.{write_base, write_effect}
 
 -- the method of each class of the part is among the targets, where it takes the count
 abbrev pub TargetsHaveMethods : Type 0
@@ -66,3 +67,21 @@ abbrev pub PathTypesRise : Type 0
 PathTypesRise =
     (r : Linked) → Sound r → (F G : List HType) (t u : HType) (ks ls : List TypeKey) → FactsLe r F G → Le (tree_of r) t u → KeysLe r ks ls
     → Le (tree_of r) (path_type r F t ks) (path_type r G u ls)
+
+-- ---- what writing leaves
+
+abbrev pub ValueLe : Linked → Option HType → Option HType → Type 0
+ValueLe r None None = Unit {0}
+ValueLe r None (Some w) = ⊥
+ValueLe r (Some v) None = ⊥
+ValueLe r (Some v) (Some w) = Le (tree_of r) v w
+
+pub record WriteLe (r : Linked) (F G : List HType) (v w : Option HType) (t u : HType) (k l : TypeKey) (ks ls : List TypeKey) : Type 0 where
+  pub base : Le (tree_of r) (write_base r F v t k ks) (write_base r G w u l ls)
+  pub effect : (q : ℕ) → Le (tree_of r) (write_effect r F v t k ks q) (write_effect r G w u l ls q)
+
+-- what writing leaves, in the base and in each property, is lower under lower facts, from a lower base, along lower keys and with a lower value
+abbrev pub WritesRise : Type 0
+WritesRise =
+    (r : Linked) → Sound r → (F G : List HType) (v w : Option HType) (t u : HType) (k l : TypeKey) (ks ls : List TypeKey)
+    → FactsLe r F G → ValueLe r v w → Le (tree_of r) t u → KeyLe r k l → KeysLe r ks ls → WriteLe r F G v w t u k l ks ls
