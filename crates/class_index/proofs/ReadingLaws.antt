@@ -1,5 +1,5 @@
 -- What reading finds rises.
-use Rattle.std.proofs.Common.{◌≡◌, ◌<◌, ◌+◌, ◌⊎◌, inl, inr, ℕ, zero, suc, refl, sym, subst, ap, ◌∙◌, Bool, true, false, not, ◌||◌, ◌==◌, Some, None, Option, List, [], ◌∷◌, map, filter, length, slice_get, arith}
+use Rattle.std.proofs.Common.{◌≡◌, ◌⊎◌, inl, inr, ℕ, refl, sym, subst, Bool, true, false, not, ◌==◌, Some, None, Option, List, [], ◌∷◌, map, length, slice_get}
 use Rattle.std.specs.List.{flat_map}
 use Rattle.std.specs.Prelude.{reverse}
 use Rattle.std.proofs.lemmas.Bool.{eqb-true, eq-eqb}
@@ -21,7 +21,7 @@ use Rattle.type_lattice.specs.Member.{obj_in}
 use Rattle.type_lattice.proofs.Claimed.{le_is_order, join_is_least_above, leaves_are_like_types, parts_keep_members}
 use Rattle.hhbc_repo.specs.Linked.{Linked}
 use Rattle.hhbc_repo.specs.LinkFaults.{Name, at_class, place_in}
-use Rattle.hhbc_repo.specs.Bodies.{numbers, own_from, properties_of, property_counts, tree_of}
+use Rattle.hhbc_repo.specs.Bodies.{numbers, own_from, properties_of, tree_of}
 use Rattle.hhbc_repo.specs.LookUps.{Sound, all_properties, own_number, number_at, property_of, total}
 use Rattle.hhbc_repo.proofs.MethodsFound.{given}
 use Rattle.hhbc_repo.proofs.Placed.{counts_are}

@@ -1,19 +1,16 @@
 -- What is claimed of targets holds.
-use Rattle.std.proofs.Common.{◌≡◌, ◌<◌, ◌+◌, ◌⊎◌, inl, inr, ℕ, refl, sym, subst, ap, ap₂, ◌∙◌, cond, Bool, true, false, ◌||◌, ◌&&◌, ◌==◌, Some, None, Option, List, [], ◌∷◌, filter, length, slice_get, arith}
+use Rattle.std.proofs.Common.{◌≡◌, ◌⊎◌, inl, inr, ℕ, refl, sym, subst, ap, ap₂, ◌∙◌, cond, Bool, true, false, ◌&&◌, ◌==◌, Some, None, Option, List, [], ◌∷◌, filter, length, arith}
 use Rattle.std.specs.List.{list_any}
 use Rattle.std.proofs.lemmas.Bool.{eqb-true, eq-eqb}
 use Rattle.std.proofs.lemmas.Option.{slice_get_within}
-use Rattle.type_lattice.specs.declared.types.ObjPart.{ObjPart}
 use Rattle.type_lattice.specs.Classes.{has}
 use Rattle.type_lattice.specs.Member.{obj_in}
 use Rattle.type_lattice.proofs.Claimed.{parts_keep_members}
 use Rattle.hhbc_repo.specs.declared.body.Body.{Body}
-use Rattle.hhbc_repo.specs.Linked.{Linked}
-use Rattle.hhbc_repo.specs.LinkFaults.{Name}
 use Rattle.hhbc_repo.specs.Bodies.{bodies, body_at, numbers, tree_of}
 use Rattle.hhbc_repo.specs.LookUps.{method_of}
 use Rattle.class_index.specs.Laws.{IsTarget, TargetsAreMethods, TargetsHaveMethods, TargetsRise}
-use Rattle.class_index.specs.Named.{classes, is_called, is_number, takes, targets}
+use Rattle.class_index.specs.Named.{is_called, is_number, takes}
 use Rattle.class_index.proofs.NamesReached.{is_some_number, number_is}
 use Rattle.class_index.proofs.PartsReached.{any_from, any_there, either, has_numbers, or_left, or_right}
 

@@ -1,5 +1,5 @@
 -- What writing leaves rises.
-use Rattle.std.proofs.Common.{◌≡◌, ◌⊎◌, inl, inr, ℕ, refl, sym, subst, ap, ap₂, ◌∙◌, cond, Bool, true, false, not, ◌||◌, ◌==◌, Some, None, Option, List, [], ◌∷◌, ◌++◌, map, length}
+use Rattle.std.proofs.Common.{◌≡◌, ◌⊎◌, inl, inr, ℕ, refl, sym, subst, ap, ◌∙◌, cond, Bool, true, false, not, ◌==◌, Some, None, Option, List, [], ◌∷◌, ◌++◌, map}
 use Rattle.std.proofs.lemmas.Bool.{eqb-true, eq-eqb}
 use Rattle.type_lattice.specs.declared.types.ObjPart.{ObjPart}
 use Rattle.type_lattice.specs.declared.types.Leaf.{Leaf}
@@ -16,9 +16,9 @@ use Rattle.hhbc_repo.specs.Bodies.{tree_of}
 use Rattle.hhbc_repo.specs.LookUps.{Sound}
 use Rattle.class_index.specs.declared.keys.TypeKey.{TypeKey}
 use Rattle.class_index.specs.declared.keys.TypeKey.TheVariants as keys
-use Rattle.class_index.specs.Laws.{KeyLe, KeysLe, FactsLe, ValueLe, WriteLe, WritesRise}
+use Rattle.class_index.specs.Laws.{KeyLe, KeysLe, FactsLe, ValueLe, WritesRise}
 use Rattle.class_index.specs.Leaves.{type_of, leaf_of, key_of, has_int, has_key, joins}
-use Rattle.class_index.specs.Named.{Names, OneName, names_of, key_names, given, gives, fact}
+use Rattle.class_index.specs.Named.{Names, NoName, OneName, names_of, key_names, given, fact}
 use Rattle.class_index.specs.Reading.{value_of}
 use Rattle.class_index.specs.Writing.{changed, objects_if, some_of, only_at, with_value, with_key, with_entry, set_element, appended, unset_element, set_property, set_base, unset_base, last_base, last_effect, left_in, left_entry, vec_under, dict_under, element_under, some_alive, inside, property_under, base_under, inner, write_base, write_effect}
 use Rattle.class_index.proofs.Joining.{joins_both}
@@ -230,3 +230,176 @@ has_alive f (p ∷ qs) q h e = go (is_never (f p)) refl (either (q == p) (has q 
         let o : true ≡ false = sym m ∙ n in
         absurd (cc)
     go true m (inr k) more = more k
+
+-- ---- names and keys
+
+module _ (r : Linked) (sound : Sound r) where
+  -- one case for each pair of keys of a kind, the others being none
+  ByKind : (TypeKey → TypeKey → Type 0) → Type 0
+  ByKind P = (
+      ((k l : HType) → KeyLe r (keys.Elem k) (keys.Elem l) → P (keys.Elem k) (keys.Elem l))
+      × ((k l : HType) → KeyLe r (keys.Prop k) (keys.Prop l) → P (keys.Prop k) (keys.Prop l))
+      × ((s n : List ℕ) → KeyLe r (keys.PropName s) (keys.PropName n) → P (keys.PropName s) (keys.PropName n))
+      × ((s n : List ℕ) → KeyLe r (keys.Nullsafe s) (keys.Nullsafe n) → P (keys.Nullsafe s) (keys.Nullsafe n))
+      × P keys.Append keys.Append
+      )
+
+  by_kind : (P : TypeKey → TypeKey → Type 0) → ByKind P → (k l : TypeKey) → KeyLe r k l → P k l
+  unfolding ByKind
+  by_kind P f (keys.Elem k) (keys.Elem l) m = f.0 k l m
+  by_kind P f (keys.Prop k) (keys.Prop l) m = f.1 k l m
+  by_kind P f (keys.PropName s) (keys.PropName n) m = f.2 s n m
+  by_kind P f (keys.Nullsafe s) (keys.Nullsafe n) m = f.3 s n m
+  by_kind P f keys.Append keys.Append m = f.4
+  by_kind P f (keys.Elem k) (keys.Prop l) m = absurd (m)
+  by_kind P f (keys.Elem k) (keys.PropName n) m = absurd (m)
+  by_kind P f (keys.Elem k) (keys.Nullsafe n) m = absurd (m)
+  by_kind P f (keys.Elem k) keys.Append m = absurd (m)
+  by_kind P f (keys.Prop k) (keys.Elem l) m = absurd (m)
+  by_kind P f (keys.Prop k) (keys.PropName n) m = absurd (m)
+  by_kind P f (keys.Prop k) (keys.Nullsafe n) m = absurd (m)
+  by_kind P f (keys.Prop k) keys.Append m = absurd (m)
+  by_kind P f (keys.PropName s) (keys.Elem l) m = absurd (m)
+  by_kind P f (keys.PropName s) (keys.Prop l) m = absurd (m)
+  by_kind P f (keys.PropName s) (keys.Nullsafe n) m = absurd (m)
+  by_kind P f (keys.PropName s) keys.Append m = absurd (m)
+  by_kind P f (keys.Nullsafe s) (keys.Elem l) m = absurd (m)
+  by_kind P f (keys.Nullsafe s) (keys.Prop l) m = absurd (m)
+  by_kind P f (keys.Nullsafe s) (keys.PropName n) m = absurd (m)
+  by_kind P f (keys.Nullsafe s) keys.Append m = absurd (m)
+  by_kind P f keys.Append (keys.Elem l) m = absurd (m)
+  by_kind P f keys.Append (keys.Prop l) m = absurd (m)
+  by_kind P f keys.Append (keys.PropName n) m = absurd (m)
+  by_kind P f keys.Append (keys.Nullsafe n) m = absurd (m)
+
+  key_names_rise : (a b : ObjPart) → ObjLe (tree_of r) a b → (k l : TypeKey) → KeyLe r k l → (q : ℕ) → has q (given r a (key_names k)) ≡ true → has q (given r b (key_names l)) ≡ true
+  unfolding ByKind
+  key_names_rise a b h = by_kind (λ k l. (q : ℕ) → has q (given r a (key_names k)) ≡ true → has q (given r b (key_names l)) ≡ true) (
+    (λ k l m. given_rises r sound a b NoName NoName h (λ q c e. e)),
+    (λ k l m. given_rises r sound a b (names_of k.str) (names_of l.str) h (names_rise r sound k.str l.str m.str)),
+    (λ s n m. given_rises r sound a b (OneName s) (OneName n) h (one_name r sound s n m)),
+    (λ s n m. given_rises r sound a b (OneName s) (OneName n) h (one_name r sound s n m)),
+    given_rises r sound a b NoName NoName h (λ q c e. e),
+  )
+
+  set_properties_rise : (t u : HType) → Le (tree_of r) t u → (n m : Names) → ((q : ℕ) → has q (given r t.obj n) ≡ true → has q (given r u.obj m) ≡ true)
+      → Le (tree_of r) (set_property r t n) (set_property r u m)
+  set_properties_rise t u h n m f =
+      of_objects (tree_of r) sound.forest (objects_if (some_of (given r t.obj n)) t.obj) (objects_if (some_of (given r u.obj m)) u.obj)
+      (objects_rise (tree_of r) sound.forest (some_of (given r t.obj n)) (some_of (given r u.obj m))
+      (λ e. let w = some_has (given r t.obj n) e in has_some (given r u.obj m) w.0 (f w.0 w.1)) t.obj u.obj h.obj)
+
+  set_base_rises : (t u v w : HType) → Le (tree_of r) t u → Le (tree_of r) v w → (k l : TypeKey) → KeyLe r k l → Le (tree_of r) (set_base r t k v) (set_base r u l w)
+  unfolding ByKind
+  set_base_rises t u v w h n = by_kind (λ k l. Le (tree_of r) (set_base r t k v) (set_base r u l w)) (
+    (λ k l m. set_rises (tree_of r) sound.forest t u k l v w h m n),
+    (λ k l m. set_properties_rise t u h (names_of k.str) (names_of l.str) (key_names_rise t.obj u.obj h.obj (keys.Prop k) (keys.Prop l) m)),
+    (λ s o m. set_properties_rise t u h (OneName s) (OneName o) (key_names_rise t.obj u.obj h.obj (keys.PropName s) (keys.PropName o) m)),
+    (λ s o m. set_properties_rise t u h (OneName s) (OneName o) (key_names_rise t.obj u.obj h.obj (keys.Nullsafe s) (keys.Nullsafe o) m)),
+    append_rises (tree_of r) sound.forest t u v w h n,
+  )
+
+  unset_base_rises : (t u : HType) → Le (tree_of r) t u → (k l : TypeKey) → KeyLe r k l → Le (tree_of r) (unset_base r t k) (unset_base r u l)
+  unfolding ByKind
+  unset_base_rises t u h = by_kind (λ k l. Le (tree_of r) (unset_base r t k) (unset_base r u l)) (
+    (λ k l m. unset_rises (tree_of r) sound.forest t u k l h m),
+    (λ k l m. never_lowest (tree_of r) sound.forest never),
+    (λ s o m. never_lowest (tree_of r) sound.forest never),
+    (λ s o m. never_lowest (tree_of r) sound.forest never),
+    never_lowest (tree_of r) sound.forest never,
+  )
+
+  last_base_rises : (t u : HType) → Le (tree_of r) t u → (k l : TypeKey) → KeyLe r k l → (v w : Option HType) → ValueLe r v w → Le (tree_of r) (last_base r v t k) (last_base r w u l)
+  last_base_rises t u h k l m None None n = unset_base_rises t u h k l m
+  last_base_rises t u h k l m (Some v) (Some w) n = set_base_rises t u v w h n k l m
+  last_base_rises t u h k l m None (Some w) n = absurd (n)
+  last_base_rises t u h k l m (Some v) None n = absurd (n)
+
+  last_effect_rises : (t u : HType) → Le (tree_of r) t u → (k l : TypeKey) → KeyLe r k l → (v w : Option HType) → ValueLe r v w → (q : ℕ) → Le (tree_of r) (last_effect r v t k q) (last_effect r w u l q)
+  last_effect_rises t u h k l m None None n q = never_lowest (tree_of r) sound.forest never
+  last_effect_rises t u h k l m (Some v) (Some w) n q =
+      only_rises (tree_of r) sound.forest q (given r t.obj (key_names k)) (given r u.obj (key_names l)) (key_names_rise t.obj u.obj h.obj k l m q) v w n
+  last_effect_rises t u h k l m None (Some w) n q = absurd (n)
+  last_effect_rises t u h k l m (Some v) None n q = absurd (n)
+
+  module _ (F G : List HType) (facts : FactsLe r F G) (next more : HType → HType) (rises : (i j : HType) → Le (tree_of r) i j → Le (tree_of r) (next i) (more j)) where
+    properties_under_rise : (t u : HType) → Le (tree_of r) t u → (n m : Names) → ((q : ℕ) → has q (given r t.obj n) ≡ true → has q (given r u.obj m) ≡ true)
+        → Le (tree_of r) (property_under r F next t n) (property_under r G more u m)
+    properties_under_rise t u h n m f =
+        let ps = given r t.obj n in
+        let qs = given r u.obj m in
+        of_objects (tree_of r) sound.forest (objects_if (some_alive (map (λ q. next (fact F q)) ps)) t.obj) (objects_if (some_alive (map (λ q. more (fact G q)) qs)) u.obj)
+        (objects_rise (tree_of r) sound.forest (some_alive (map (λ q. next (fact F q)) ps)) (some_alive (map (λ q. more (fact G q)) qs))
+        (λ e.
+        let w = alive_has (λ q. next (fact F q)) ps e in
+        has_alive (λ q. more (fact G q)) qs w.0 (f w.0 w.1)
+        (alive_rises (tree_of r) sound.forest (next (fact F w.0)) (more (fact G w.0)) (rises (fact F w.0) (fact G w.0) (facts w.0)) w.2)) t.obj u.obj h.obj)
+
+    base_under_rises : (t u : HType) → Le (tree_of r) t u → (k l : TypeKey) → KeyLe r k l → Le (tree_of r) (base_under r F next t k) (base_under r G more u l)
+    unfolding ByKind
+    base_under_rises t u h = by_kind (λ k l. Le (tree_of r) (base_under r F next t k) (base_under r G more u l)) (
+      (λ k l m. elements_rise (tree_of r) sound.forest next more rises t u k l h m),
+      (λ k l m. properties_under_rise t u h (names_of k.str) (names_of l.str) (key_names_rise t.obj u.obj h.obj (keys.Prop k) (keys.Prop l) m)),
+      (λ s o m. properties_under_rise t u h (OneName s) (OneName o) (key_names_rise t.obj u.obj h.obj (keys.PropName s) (keys.PropName o) m)),
+      (λ s o m. properties_under_rise t u h (OneName s) (OneName o) (key_names_rise t.obj u.obj h.obj (keys.Nullsafe s) (keys.Nullsafe o) m)),
+      never_lowest (tree_of r) sound.forest never,
+    )
+
+    named_inner : (t u : HType) (n m : Names) → ((q : ℕ) → has q (given r t.obj n) ≡ true → has q (given r u.obj m) ≡ true)
+        → Le (tree_of r) (joins (tree_of r) (map next (map (fact F) (given r t.obj n)))) (joins (tree_of r) (map more (map (fact G) (given r u.obj m))))
+    named_inner t u n m f =
+        subst (λ xs. Le (tree_of r) (joins (tree_of r) xs) (joins (tree_of r) (map more (map (fact G) (given r u.obj m))))) (sym (map_twice next (fact F) (given r t.obj n)))
+        (subst (λ ys. Le (tree_of r) (joins (tree_of r) (map (λ q. next (fact F q)) (given r t.obj n))) (joins (tree_of r) ys)) (sym (map_twice more (fact G) (given r u.obj m)))
+        (joins_rise (tree_of r) sound.forest (λ q. next (fact F q)) (λ q. more (fact G q)) (given r t.obj n) (given r u.obj m) (λ q k. (f q k, rises (fact F q) (fact G q) (facts q)))))
+
+    element_inner : (t u k l : HType) → Le (tree_of r) t u → Le (tree_of r) k l
+        → Le (tree_of r) (joins (tree_of r) (map next (inside type_of (has_int k) t.vec ++ inside value_of (has_key k) t.dict)))
+        (joins (tree_of r) (map more (inside type_of (has_int l) u.vec ++ inside value_of (has_key l) u.dict)))
+    element_inner t u k l h m =
+        let a = inside type_of (has_int k) t.vec in
+        let b = inside value_of (has_key k) t.dict in
+        let c = inside type_of (has_int l) u.vec in
+        let d = inside value_of (has_key l) u.dict in
+        subst (λ (x : HType). Le (tree_of r) x (joins (tree_of r) (map more (c ++ d))))
+        (sym (ap (joins (tree_of r)) (map_parts next a b) ∙ joins_both (tree_of r) sound.forest (map next a) (map next b)))
+        (subst (λ (y : HType). Le (tree_of r) (join (tree_of r) (joins (tree_of r) (map next a)) (joins (tree_of r) (map next b))) y)
+        (sym (ap (joins (tree_of r)) (map_parts more c d) ∙ joins_both (tree_of r) sound.forest (map more c) (map more d)))
+        (join_rises (tree_of r) sound.forest (joins (tree_of r) (map next a)) (joins (tree_of r) (map next b)) (joins (tree_of r) (map more c)) (joins (tree_of r) (map more d))
+        (inside_rises (tree_of r) sound.forest next more rises (LeafLe (tree_of r)) type_of (type_rises (tree_of r) sound.forest) (has_int k) (has_int l) (int_rises (tree_of r) sound.forest k l m) t.vec u.vec h.vec)
+        (inside_rises (tree_of r) sound.forest next more rises (EntryLe (tree_of r)) value_of (value_rises (tree_of r) sound.forest) (has_key k) (has_key l) (key_rises (tree_of r) sound.forest k l m) t.dict u.dict h.dict)))
+
+    inner_rises : (t u : HType) → Le (tree_of r) t u → (k l : TypeKey) → KeyLe r k l → Le (tree_of r) (joins (tree_of r) (map next (inner r F t k))) (joins (tree_of r) (map more (inner r G u l)))
+    unfolding ByKind
+    inner_rises t u h = by_kind (λ k l. Le (tree_of r) (joins (tree_of r) (map next (inner r F t k))) (joins (tree_of r) (map more (inner r G u l)))) (
+      (λ k l m. element_inner t u k l h m),
+      (λ k l m. named_inner t u (names_of k.str) (names_of l.str) (key_names_rise t.obj u.obj h.obj (keys.Prop k) (keys.Prop l) m)),
+      (λ s o m. named_inner t u (OneName s) (OneName o) (key_names_rise t.obj u.obj h.obj (keys.PropName s) (keys.PropName o) m)),
+      (λ s o m. named_inner t u (OneName s) (OneName o) (key_names_rise t.obj u.obj h.obj (keys.Nullsafe s) (keys.Nullsafe o) m)),
+      never_lowest (tree_of r) sound.forest never,
+    )
+
+  module _ (F G : List HType) (facts : FactsLe r F G) (v w : Option HType) (values : ValueLe r v w) where
+    base_rises : (ks ls : List TypeKey) → KeysLe r ks ls → (k l : TypeKey) → KeyLe r k l → (t u : HType) → Le (tree_of r) t u → Le (tree_of r) (write_base r F v t k ks) (write_base r G w u l ls)
+    base_rises [] [] m k l e t u h = last_base_rises t u h k l e v w values
+    base_rises [] (b ∷ bs) m k l e t u h = absurd (m)
+    base_rises (a ∷ as_) [] m k l e t u h = absurd (m)
+    base_rises (a ∷ as_) (b ∷ bs) m k l e t u h =
+        base_under_rises F G facts (λ i. write_base r F v i a as_) (λ i. write_base r G w i b bs) (λ i j n. base_rises as_ bs m.1 a b m.0 i j n) t u h k l e
+
+    effect_rises : (ks ls : List TypeKey) → KeysLe r ks ls → (k l : TypeKey) → KeyLe r k l → (t u : HType) → Le (tree_of r) t u → (q : ℕ)
+        → Le (tree_of r) (write_effect r F v t k ks q) (write_effect r G w u l ls q)
+    effect_rises [] [] m k l e t u h q = last_effect_rises t u h k l e v w values q
+    effect_rises [] (b ∷ bs) m k l e t u h q = absurd (m)
+    effect_rises (a ∷ as_) [] m k l e t u h q = absurd (m)
+    effect_rises (a ∷ as_) (b ∷ bs) m k l e t u h q =
+        join_rises (tree_of r) sound.forest (only_at q (given r t.obj (key_names k)) (write_base r F v (fact F q) a as_)) (joins (tree_of r) (map (λ i. write_effect r F v i a as_ q) (inner r F t k)))
+        (only_at q (given r u.obj (key_names l)) (write_base r G w (fact G q) b bs)) (joins (tree_of r) (map (λ i. write_effect r G w i b bs q) (inner r G u l)))
+        (only_rises (tree_of r) sound.forest q (given r t.obj (key_names k)) (given r u.obj (key_names l)) (key_names_rise t.obj u.obj h.obj k l e q)
+        (write_base r F v (fact F q) a as_) (write_base r G w (fact G q) b bs) (base_rises as_ bs m.1 a b m.0 (fact F q) (fact G q) (facts q)))
+        (inner_rises F G facts (λ i. write_effect r F v i a as_ q) (λ i. write_effect r G w i b bs q) (λ i j n. effect_rises as_ bs m.1 a b m.0 i j n q) t u h k l e)
+
+pub writes_rise : WritesRise
+writes_rise r sound F G v w t u k l ks ls facts values h m n = record {
+  base = base_rises r sound F G facts v w values ks ls n k l m t u h;
+  effect = effect_rises r sound F G facts v w values ks ls n k l m t u h;
+}

@@ -1,6 +1,6 @@
 //! Laws of the definitions, each the contract of a function that does nothing.
 
-ghost use Rattle.class_index.specs.Laws.{PathTypesRise, TargetsAreMethods, TargetsHaveMethods, TargetsRise};
+ghost use Rattle.class_index.specs.Laws.{PathTypesRise, TargetsAreMethods, TargetsHaveMethods, TargetsRise, WritesRise};
 
 /// The method of each class of the receiver's part is among the targets, where it takes the count.
 #[tactic(auto, using(crate::proofs::TargetLaws::targets_have_methods))]
@@ -21,7 +21,12 @@ pub fn targets_rise()
 {}
 
 /// What reading finds is lower under lower facts, from a lower base and along lower keys.
-#[tactic(auto, using(crate::proofs::ReadingLaws::path_types_rise))]
 pub fn path_types_rise()
     ensures { PathTypesRise }
+{}
+
+/// What writing leaves, in the base and in each property, is lower under lower facts, from a lower base, along lower keys
+/// and with a lower value.
+pub fn writes_rise()
+    ensures { WritesRise }
 {}

@@ -16,7 +16,9 @@ pub use effects::{Effect, PathWrite};
 pub use entered::targets;
 pub use facts::Facts;
 pub use keys::TypeKey;
-pub use laws::{path_types_rise, targets_are_methods, targets_have_methods, targets_rise};
+pub use laws::{
+    path_types_rise, targets_are_methods, targets_have_methods, targets_rise, writes_rise,
+};
 pub use objects::join_class;
 pub use reading::path_type;
 pub use threads::facts_cross_threads;
