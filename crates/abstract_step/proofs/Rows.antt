@@ -21,7 +21,10 @@ use Rattle.hhbc_repo.specs.declared.body.Body.{Body}
 use Rattle.hhbc_repo.specs.Linked.{Linked}
 use Rattle.hhbc_repo.specs.Codes.{local_of, int_of}
 use Rattle.hhbc_semantics.specs.Truth.{Facts}
-use Rattle.hhbc_semantics.specs.Machine.{World, Frame, Turn, with_cell, read_slot, perform, perform_code}
+use Rattle.hhbc_semantics.specs.Frames.{World, Frame, Turn}
+use Rattle.hhbc_semantics.specs.Machine.{perform_code}
+use Rattle.hhbc_semantics.specs.Operands.{with_cell, read_slot}
+use Rattle.hhbc_semantics.specs.Rows.{perform}
 use Rattle.abstract_step.specs.State.{State, AllLe, StateLe}
 use Rattle.abstract_step.specs.Flow.{Row, nothing, undefined_row, with_type, with_local_type, op_row, row}
 pub use Rattle.abstract_step.specs.Laws.{Lies, LiesBehind, Fits}

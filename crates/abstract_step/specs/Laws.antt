@@ -9,7 +9,8 @@ use Rattle.hhbc_repo.specs.declared.body.Body.{Body}
 use Rattle.hhbc_repo.specs.Linked.{Linked}
 use Rattle.hhbc_repo.specs.Bodies.{tree_of}
 use Rattle.hhbc_semantics.specs.Truth.{Facts}
-use Rattle.hhbc_semantics.specs.Machine.{World, Frame, Turn, Goes, Calls, Returns, Raises, Ends, perform_code}
+use Rattle.hhbc_semantics.specs.Frames.{World, Frame, Turn, Goes, Calls, Returns, Raises, Ends}
+use Rattle.hhbc_semantics.specs.Machine.{perform_code}
 use Rattle.abstract_step.specs.State.{State, AllLe, StateLe, is_alive}
 use Rattle.abstract_step.specs.Flow.{Row, Flows, row, flow}
 

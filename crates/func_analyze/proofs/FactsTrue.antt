@@ -13,7 +13,8 @@ use Rattle.hhbc_repo.specs.declared.repo.Class.{Class}
 use Rattle.hhbc_repo.specs.Linked.{Linked}
 use Rattle.hhbc_repo.specs.Bodies.{built_in_tree, built_in_counts, own_from, bodies, body_at, tree_of, property_counts, properties_of}
 use Rattle.hhbc_repo.specs.Bare.{bare, bare_class, bare_property}
-use Rattle.hhbc_semantics.specs.Machine.{World, Frame, turn}
+use Rattle.hhbc_semantics.specs.Frames.{World, Frame}
+use Rattle.hhbc_semantics.specs.Machine.{turn}
 use Rattle.hhbc_semantics.specs.Steps.{Config, Running, Ended, steps_by}
 use Rattle.hhbc_semantics.specs.Run.{after, entered, start}
 use Rattle.hhbc_semantics.specs.Soundness.{At, Lies, Waiting, Sound, Solve, IsRoundBy, AreByRounds, Starts}

@@ -9,7 +9,8 @@ use Rattle.hhbc_repo.specs.Bodies.{bodies, body_at, tree_of, properties_of}
 use Rattle.hhbc_repo.specs.Bodies as parts
 use Rattle.hhbc_repo.specs.Bare.{bare}
 use Rattle.hhbc_semantics.specs.Outcome.{Stuck}
-use Rattle.hhbc_semantics.specs.Machine.{World, Frame, Returns, turn}
+use Rattle.hhbc_semantics.specs.Frames.{World, Frame, Returns}
+use Rattle.hhbc_semantics.specs.Machine.{turn}
 use Rattle.hhbc_semantics.specs.Steps.{Config, Running, Ended, next, steps_by}
 use Rattle.hhbc_semantics.specs.Run.{test, asserts_in, asserts_of, tested, advance, after, start, state_after, result_of}
 use Rattle.hhbc_semantics.specs.Truth.{Facts, HoldIn, ReturnsIn, TrueOf, ClaimsHold, IsNeverStuck, IsFaithful, stated_props, stated_returns, each}

@@ -12,7 +12,11 @@ use Rattle.hhbc_repo.specs.declared.code.Code.TheVariants as kinds
 use Rattle.hhbc_repo.specs.declared.code.Imm.{Imm}
 use Rattle.hhbc_repo.specs.declared.body.Body.{Body}
 use Rattle.hhbc_repo.specs.Codes.{local_of, throws}
-use Rattle.hhbc_semantics.specs.Machine.{World, Frame, Turn, Goes, Calls, Returns, Raises, Ends, exception, undefined_variable, with_cell, read_slot, name_or_none, perform, perform_code}
+use Rattle.hhbc_semantics.specs.Exceptions.{exception, undefined_variable}
+use Rattle.hhbc_semantics.specs.Frames.{World, Frame, Turn, Goes, Calls, Returns, Raises, Ends}
+use Rattle.hhbc_semantics.specs.Machine.{perform_code}
+use Rattle.hhbc_semantics.specs.Operands.{with_cell, read_slot, name_or_none}
+use Rattle.hhbc_semantics.specs.Rows.{perform}
 
 -- a turn changes nothing that all frames share, but to raise the exception of an undefined variable, where it may throw
 abbrev pub Does : Bool → World → Turn → Type 0

@@ -18,7 +18,9 @@ use Rattle.hhbc_repo.specs.Bodies.{body_at, code_at, tree_of, properties_of}
 use Rattle.hhbc_repo.specs.Codes.{throws}
 use Rattle.hhbc_repo.specs.Edges.{handler_of}
 use Rattle.hhbc_semantics.specs.Growth.{HeapGrows, WorldGrows}
-use Rattle.hhbc_semantics.specs.Machine.{World, Frame, Turn, Goes, Calls, Returns, Raises, Ends, Fails, Sticks, exception, perform_code, turn_in}
+use Rattle.hhbc_semantics.specs.Exceptions.{exception}
+use Rattle.hhbc_semantics.specs.Frames.{World, Frame, Turn, Goes, Calls, Returns, Raises, Ends, Fails, Sticks}
+use Rattle.hhbc_semantics.specs.Machine.{perform_code, turn_in}
 use Rattle.hhbc_semantics.specs.Steps.{handler_in}
 use Rattle.hhbc_semantics.specs.Run.{entered}
 use Rattle.hhbc_semantics.specs.Soundness.{MayThrowAt, Led, GoesWith, Laws}

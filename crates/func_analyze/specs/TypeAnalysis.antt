@@ -9,7 +9,8 @@ use Rattle.hhbc_repo.specs.Linked.{Linked}
 use Rattle.hhbc_repo.specs.Bodies.{body_at, tree_of}
 use Rattle.hhbc_repo.specs.Bare.{bare}
 use Rattle.hhbc_semantics.specs.Growth.{WorldGrows}
-use Rattle.hhbc_semantics.specs.Machine.{Frame, turn}
+use Rattle.hhbc_semantics.specs.Frames.{Frame}
+use Rattle.hhbc_semantics.specs.Machine.{turn}
 use Rattle.hhbc_semantics.specs.Steps.{Config, Running, Ended}
 use Rattle.hhbc_semantics.specs.Run.{state_after}
 use Rattle.hhbc_semantics.specs.Soundness.{Analysis, MayThrowAt}

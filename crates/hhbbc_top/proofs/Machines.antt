@@ -22,7 +22,9 @@ use Rattle.hhbbc_top.specs.declared.machine.Machine.{Machine}
 use Rattle.hhbbc_top.specs.declared.machine.Turn.TheVariants as turns
 use Rattle.hhbbc_top.specs.declared.machine.Turn.{Turn as Did}
 use Rattle.hhbbc_top.specs.declared.machine.Value.{Value}
-use Rattle.hhbc_semantics.specs.Machine.{World, Frame, Goes, Returns, perform_code, with_cell, ahead, set_local}
+use Rattle.hhbc_semantics.specs.Frames.{World, Frame, Goes, Returns, ahead, set_local}
+use Rattle.hhbc_semantics.specs.Machine.{perform_code}
+use Rattle.hhbc_semantics.specs.Operands.{with_cell}
 use Rattle.hhbbc_top.specs.Forms.{code_of, position_of, body_of, repo_of}
 use Rattle.hhbbc_top.specs.Running.{cell_of, full, slot_of, frame_of, config_of, turn_of, outcome_of, HasEnded, Turned}
 

@@ -6,7 +6,9 @@ ghost use Rattle.hack_values.specs.declared.cell.Slot.TheVariants as slots;
 ghost use Rattle.type_lattice.specs.Member as members;
 ghost use Rattle.hhbc_repo.specs.declared.body.Body.{Body};
 ghost use Rattle.hhbc_repo.specs.Bodies.{built_in_tree};
+ghost use Rattle.hhbc_semantics.specs.Frames as frames;
 ghost use Rattle.hhbc_semantics.specs.Machine as machines;
+ghost use Rattle.hhbc_semantics.specs.Operands as operands;
 ghost use Rattle.hhbc_semantics.specs.Run as runs;
 ghost use Rattle.hhbbc_top.specs.Forms.{code_of, repo_of};
 ghost use Rattle.hhbbc_top.specs.Running as running;
@@ -152,7 +154,7 @@ fn entered(alloc: Global, locals: usize) -> Result<Machine, NoMemory>
 /// Pushes a value, and goes on.
 fn push(machine: &mut Machine, value: Value) -> Result<Turn, NoMemory>
     requires { machine.old.position < 2 ^ 63 }
-    ensures { IfOk result (λ turn. (turn ≡ Turn.Goes) × (running.frame_of machine.new ≡ machines.push (running.frame_of machine.old) (running.cell_of value))) }
+    ensures { IfOk result (λ turn. (turn ≡ Turn.Goes) × (running.frame_of machine.new ≡ frames.push (running.frame_of machine.old) (running.cell_of value))) }
 {
     machine.stack.push(value)?;
     machine.position += 1;
@@ -162,7 +164,7 @@ fn push(machine: &mut Machine, value: Value) -> Result<Turn, NoMemory>
 /// Drops the top, and goes on.
 fn pop(machine: &mut Machine) -> Turn
     requires { machine.old.position < 2 ^ 63 }
-    ensures { (names : List (List ℕ)) → running.turn_of names result (running.frame_of machine.new) ≡ machines.with_cell (running.frame_of machine.old).stack runs.no_world (λ c rest. machines.Goes (machines.ahead (running.frame_of machine.old) rest) runs.no_world) }
+    ensures { (names : List (List ℕ)) → running.turn_of names result (running.frame_of machine.new) ≡ operands.with_cell (running.frame_of machine.old).stack runs.no_world (λ c rest. frames.Goes (frames.ahead (running.frame_of machine.old) rest) runs.no_world) }
 {
     match machine.stack.pop() {
         None => Turn::Sticks,
@@ -186,7 +188,7 @@ fn store(locals: &mut Vec<Option<Value>>, local: u8, value: Value)
 /// Copies the top to a local, and goes on.
 fn set_local(machine: &mut Machine, local: u8) -> Turn
     requires { machine.old.position < 2 ^ 63 }
-    ensures { (names : List (List ℕ)) → running.turn_of names result (running.frame_of machine.new) ≡ machines.with_cell (running.frame_of machine.old).stack runs.no_world (λ c rest. machines.Goes (machines.ahead (machines.set_local (running.frame_of machine.old) local (slots.Cell c)) (running.frame_of machine.old).stack) runs.no_world) }
+    ensures { (names : List (List ℕ)) → running.turn_of names result (running.frame_of machine.new) ≡ operands.with_cell (running.frame_of machine.old).stack runs.no_world (λ c rest. frames.Goes (frames.ahead (frames.set_local (running.frame_of machine.old) local (slots.Cell c)) (running.frame_of machine.old).stack) runs.no_world) }
 {
     let Some(top) = below_top(&machine.stack, 0) else {
         return Turn::Sticks;

@@ -20,7 +20,8 @@ use Rattle.hhbc_repo.specs.Bare.{bare, bare_position}
 use Rattle.hhbc_ops.specs.declared.words.Flavour.{Flavour}
 use Rattle.hhbc_repo.specs.Codes.{pops, slots_read, iter_use}
 use Rattle.hhbc_semantics.specs.Form.{FitsCode, FitAsserts, IsSecondBody}
-use Rattle.hhbc_semantics.specs.Machine.{World, Frame, turn}
+use Rattle.hhbc_semantics.specs.Frames.{World, Frame}
+use Rattle.hhbc_semantics.specs.Machine.{turn}
 use Rattle.hhbc_semantics.specs.Outcome.{Outcome, Why, Underflow, Stuck, AssertFalse}
 use Rattle.hhbc_semantics.specs.Steps.{Config, Running, Ended, place_of, steps_by}
 use Rattle.hhbc_semantics.specs.Run.{slot_in, and_then, test, asserts_in, asserts_of, after, entered, start, result_of}

@@ -6,7 +6,8 @@ use Rattle.hack_values.specs.declared.cell.Slot.TheVariants as slots
 use Rattle.hhbc_repo.specs.declared.body.Body.{Body}
 use Rattle.hhbc_repo.specs.Linked.{Linked}
 use Rattle.hhbc_repo.specs.Bodies.{body_at}
-use Rattle.hhbc_semantics.specs.Machine.{World, Frame, Turn, Returns, with_cell}
+use Rattle.hhbc_semantics.specs.Frames.{World, Frame, Turn, Returns}
+use Rattle.hhbc_semantics.specs.Operands.{with_cell}
 use Rattle.hhbc_semantics.specs.Steps.{Config, Running, Ended, handler_in}
 use Rattle.hhbc_semantics.specs.Run.{no_world}
 use Rattle.hhbc_semantics.specs.Soundness.{Led, GoesWith, Laws, TrueOf}

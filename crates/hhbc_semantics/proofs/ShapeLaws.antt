@@ -18,7 +18,10 @@ use Rattle.hhbc_ops.specs.declared.words.Flavour.TheVariants.{C, U}
 use Rattle.hhbc_repo.specs.Codes.{local_of, op_pops, op_pushes, pops, pushes, iter_use, throws, goes_on, labels}
 use Rattle.hhbc_repo.specs.Edges.{Edge, Next, To, Handler, target, edges, next_edges, handler_of}
 use Rattle.hhbc_semantics.specs.Form.{FitsOperands, FitsCode}
-use Rattle.hhbc_semantics.specs.Machine.{World, Frame, Turn, Goes, Calls, Returns, Raises, Ends, Fails, Sticks, with_cell, read_slot, name_or_none, perform, perform_code, turn_in}
+use Rattle.hhbc_semantics.specs.Frames.{World, Frame, Turn, Goes, Calls, Returns, Raises, Ends, Fails, Sticks}
+use Rattle.hhbc_semantics.specs.Machine.{perform_code, turn_in}
+use Rattle.hhbc_semantics.specs.Operands.{with_cell, read_slot, name_or_none}
+use Rattle.hhbc_semantics.specs.Rows.{perform}
 use Rattle.hhbc_semantics.specs.Steps.{handler_in}
 use Rattle.hhbc_repo.specs.Shapes.{Shape, agree, after, behind, live_next, hands_on, caught_shape, given, shapes}
 use Rattle.hhbc_semantics.specs.Soundness.{MayThrowAt, Led, GoesWith, Laws, IsRoundBy, At}

@@ -6,7 +6,7 @@ use Rattle.hack_values.specs.declared.heap.Object.{Object}
 use Rattle.type_lattice.specs.Member.{Heap}
 use Rattle.hhbc_repo.specs.Linked.{Linked}
 use Rattle.hhbc_semantics.specs.Outcome.{Place, Why, Stuck, Fatal, Frames}
-use Rattle.hhbc_semantics.specs.Machine.{World, Frame, Turn, Goes, Calls, Returns, Raises, Ends, Fails, Sticks}
+use Rattle.hhbc_semantics.specs.Frames.{World, Frame, Turn, Goes, Calls, Returns, Raises, Ends, Fails, Sticks}
 use Rattle.hhbc_semantics.specs.Steps.{Config, Running, Ended, place_of, after_call, caught, uncaught, uncaught_cell, resume, unwind, give, frame_limit, finish, next_by, steps_by}
 use Rattle.hhbc_semantics.specs.Soundness.{Analysis, world_of, CallsBody, At, Led, GoesWith, Laws, IsRoundBy, AreByRounds, TrueOf, Lies, Waiting, Sound, Starts, FactsStayTrue, RoundsStayTrue}
 

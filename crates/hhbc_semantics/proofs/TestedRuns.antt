@@ -3,7 +3,8 @@ use Rattle.std.proofs.Common.{◌≡◌, ◌⊎◌, inl, inr, ℕ, zero, suc, re
 use Rattle.hhbc_repo.specs.Linked.{Linked}
 use Rattle.hhbc_repo.specs.Bodies.{tree_of}
 use Rattle.hhbc_repo.specs.Bare.{bare}
-use Rattle.hhbc_semantics.specs.Machine.{World, Frame, turn}
+use Rattle.hhbc_semantics.specs.Frames.{World, Frame}
+use Rattle.hhbc_semantics.specs.Machine.{turn}
 use Rattle.hhbc_semantics.specs.Steps.{Config, Running, Ended, next, next_by, steps_by}
 use Rattle.hhbc_semantics.specs.Run.{test, asserts_of, tested, advance, after}
 use Rattle.hhbc_semantics.specs.Tested.{IsStopped, TestsOnlyStop}

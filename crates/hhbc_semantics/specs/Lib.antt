@@ -1,10 +1,15 @@
+pub mod Exceptions
 pub mod Form
+pub mod Frames
 pub mod Growth
 pub mod Machine
+pub mod Operands
 pub mod Outcome
 pub mod PlainTypes
+pub mod Rows
 pub mod Run
 pub mod Sample
+pub mod Setting
 pub mod ShapeAnalysis
 pub mod Soundness
 pub mod Steps

@@ -14,7 +14,7 @@ use Rattle.hhbc_repo.specs.Linked.{Linked}
 use Rattle.hhbc_repo.specs.Bodies.{tree_of, body_at, asserts_at}
 use Rattle.hhbc_repo.specs.Bare.{bare}
 use Rattle.hhbc_semantics.specs.Outcome.{Outcome, AssertFalse, Steps, Stuck, UnknownEntry, WrongCount, Underflow}
-use Rattle.hhbc_semantics.specs.Machine.{World, Frame}
+use Rattle.hhbc_semantics.specs.Frames.{World, Frame}
 use Rattle.hhbc_semantics.specs.Steps.{Config, Running, Ended, place_of, next}
 
 -- whether the slot is of the type, where there is a slot

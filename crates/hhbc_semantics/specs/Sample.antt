@@ -8,7 +8,9 @@ use Rattle.hhbc_repo.specs.declared.body.Body.{Body}
 use Rattle.hhbc_repo.specs.Linked.{Linked}
 use Rattle.hhbc_repo.specs.Bodies.{body_at}
 use Rattle.hhbc_semantics.specs.Outcome.{Undefined, Underflow}
-use Rattle.hhbc_semantics.specs.Machine.{World, Frame, Turn, Goes, Calls, Returns, Ends, Fails, Sticks, push, with_cell, raises}
+use Rattle.hhbc_semantics.specs.Exceptions.{raises}
+use Rattle.hhbc_semantics.specs.Frames.{World, Frame, Turn, Goes, Calls, Returns, Ends, Fails, Sticks, push}
+use Rattle.hhbc_semantics.specs.Operands.{with_cell}
 use Rattle.hhbc_semantics.specs.Steps.{Running, handler_in, steps_by}
 use Rattle.hhbc_semantics.specs.Run.{no_world}
 use Rattle.hhbc_semantics.specs.Soundness.{Analysis, AreByRounds, TrueOf}

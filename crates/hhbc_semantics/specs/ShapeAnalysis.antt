@@ -14,7 +14,8 @@ use Rattle.hhbc_ops.specs.declared.words.Flavour.TheVariants.{C, U}
 use Rattle.hhbc_repo.specs.Codes.{pops, slots_read, iter_use}
 use Rattle.hhbc_repo.specs.Edges.{Edge, target, edges}
 use Rattle.hhbc_semantics.specs.Form.{FitsCode}
-use Rattle.hhbc_semantics.specs.Machine.{Frame, turn}
+use Rattle.hhbc_semantics.specs.Frames.{Frame}
+use Rattle.hhbc_semantics.specs.Machine.{turn}
 use Rattle.hhbc_repo.specs.Shapes.{Shape, AllPass, empty_shape, after, agree, all_within, all_cells, iter_checks, Types}
 use Rattle.hhbc_semantics.specs.Soundness.{Analysis, MayThrowAt}
 use Rattle.hhbc_semantics.specs.Truth.{IsNeverStuck}

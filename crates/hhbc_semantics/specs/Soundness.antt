@@ -7,7 +7,7 @@ use Rattle.hhbc_repo.specs.Linked.{Linked}
 use Rattle.hhbc_repo.specs.Bodies.{body_at, code_at}
 use Rattle.hhbc_repo.specs.Codes.{throws}
 use Rattle.hhbc_semantics.specs.Outcome.{Outcome, Stuck, Why}
-use Rattle.hhbc_semantics.specs.Machine.{World, Frame, Turn, Goes, Calls, Returns, Raises, Ends, Fails, Sticks}
+use Rattle.hhbc_semantics.specs.Frames.{World, Frame, Turn, Goes, Calls, Returns, Raises, Ends, Fails, Sticks}
 use Rattle.hhbc_semantics.specs.Steps.{Config, Running, Ended, after_call, caught, steps_by}
 
 -- what the codes of a machine do, and what an analysis may say of its frames

@@ -12,7 +12,8 @@ use Rattle.hhbc_repo.specs.Bodies.{body_at, code_at}
 use Rattle.hhbc_repo.specs.Codes.{pops}
 use Rattle.hhbc_repo.specs.Edges.{handler_of}
 use Rattle.hhbc_semantics.specs.Outcome.{Place, Outcome, Returned, Uncaught, Fatal, Stuck, Frames}
-use Rattle.hhbc_semantics.specs.Machine.{World, Frame, Turn, Goes, Calls, Returns, Raises, Ends, Fails, Sticks, ahead, turn}
+use Rattle.hhbc_semantics.specs.Frames.{World, Frame, Turn, Goes, Calls, Returns, Raises, Ends, Fails, Sticks, ahead}
+use Rattle.hhbc_semantics.specs.Machine.{turn}
 
 -- the topmost frame, the frames below it, the nearest first, and what they share; or how the run ended
 pub data Config : Type 0 where

@@ -3,7 +3,7 @@ use Rattle.std.specs.Prelude.{◌≡◌, ◌⊎◌, ◌<◌, ℕ, true, false, L
 use Rattle.hhbc_repo.specs.Linked.{Linked}
 use Rattle.hhbc_repo.specs.Bodies.{tree_of}
 use Rattle.hhbc_semantics.specs.Outcome.{Outcome, AssertFalse, Stuck, Underflow}
-use Rattle.hhbc_semantics.specs.Machine.{World, Frame}
+use Rattle.hhbc_semantics.specs.Frames.{World, Frame}
 use Rattle.hhbc_semantics.specs.Steps.{Config, Running, Ended, place_of}
 use Rattle.hhbc_semantics.specs.Run.{test, asserts_of, after}
 

@@ -17,7 +17,8 @@ use Rattle.hhbc_repo.specs.Bare.{bare}
 use Rattle.hhbc_semantics.specs.Form.{IsFirstForm, IsSecondForm}
 use Rattle.hhbc_repo.specs.Shapes.{Types}
 use Rattle.hhbc_semantics.specs.Outcome.{Why, Stuck}
-use Rattle.hhbc_semantics.specs.Machine.{World, Frame, Returns, turn}
+use Rattle.hhbc_semantics.specs.Frames.{World, Frame, Returns}
+use Rattle.hhbc_semantics.specs.Machine.{turn}
 use Rattle.hhbc_semantics.specs.Steps.{Config, Running, Ended}
 use Rattle.hhbc_semantics.specs.Run.{test, asserts_of, state_after, run}
 
