@@ -6,6 +6,7 @@ use Rattle.hack_values.specs.declared.cell.Slot.TheVariants as slots
 use Rattle.hhbc_repo.specs.declared.body.Body.{Body}
 use Rattle.hhbc_repo.specs.Linked.{Linked}
 use Rattle.hhbc_repo.specs.Bodies.{body_at}
+use Rattle.hhbc_semantics.specs.Setting.{with_six}
 use Rattle.hhbc_semantics.specs.Frames.{World, Frame, Turn, Returns}
 use Rattle.hhbc_semantics.specs.Operands.{with_cell}
 use Rattle.hhbc_semantics.specs.Steps.{Config, Running, Ended, handler_in}
@@ -100,5 +101,5 @@ module _ (program : Program) (r : Linked) where
 
 pub sample_is_true : SampleIsTrue
 sample_is_true program r b body is n F rounds =
-    (rounds_stay_true (sample program) r (sample_laws program r) unknown (unknown_true program r) (Running (fresh b) [] no_world)
+    (rounds_stay_true (λ S. sample program S.repo) (with_six r) (sample_laws program r) unknown (unknown_true program r) (Running (fresh b) [] no_world)
     (refl, (body, is), refl, tt, λ G e. refl) n F rounds).0

@@ -15,7 +15,7 @@ use Rattle.hhbc_ops.specs.declared.words.Flavour.{Flavour}
 use Rattle.hhbc_ops.specs.declared.words.Flavour.TheVariants.{C, U}
 use Rattle.hhbc_repo.specs.Edges.{Edge, target, edges, edges_of}
 use Rattle.hhbc_repo.specs.Shapes.{Shape, Check, AllPass, given, given_after, given_by, handed, or_unled, shapes, edge_to, after, hands_on, agree, same_live, reaches, pops_of, slots_read_of, iter_use_of, all_within, all_cells, iter_checks, edge_checks, all_edge_checks, last_checks, checks, first_fault, fault_at}
-use Rattle.hhbc_repo.proofs.Elements.{before_last, from_map, slice_last, to_map}
+use Rattle.hhbc_repo.proofs.Elements.{before_last, from_map, slice_last}
 use Rattle.hhbc_semantics.proofs.Walking.{shapes_length}
 
 -- an element of a list with one more behind it

@@ -5,6 +5,7 @@ use Rattle.hack_values.specs.declared.cell.Cell.TheVariants as cells
 use Rattle.hack_values.specs.declared.heap.Object.{Object}
 use Rattle.type_lattice.specs.Member.{Heap}
 use Rattle.hhbc_repo.specs.Linked.{Linked}
+use Rattle.hhbc_semantics.specs.Setting.{Setting}
 use Rattle.hhbc_semantics.specs.Outcome.{Place, Why, Stuck, Fatal, Frames}
 use Rattle.hhbc_semantics.specs.Frames.{World, Frame, Turn, Goes, Calls, Returns, Raises, Ends, Fails, Sticks}
 use Rattle.hhbc_semantics.specs.Steps.{Config, Running, Ended, place_of, after_call, caught, uncaught, uncaught_cell, resume, unwind, give, frame_limit, finish, next_by, steps_by}
@@ -174,11 +175,12 @@ module _ (r : Linked) (A : Analysis) where
   by_rounds L first top c start (suc n) G is m =
       (stay_true L is.0 G is.2 is.3 c (starts_sound L is.0 G is.2 is.3 c start) (by_rounds L first top c start n is.0 is.1) m).1
 
-pub facts_stay_true : (A : Linked → Analysis) → FactsStayTrue A
-facts_stay_true A r L F G Ts round c sound is_true n = stay_true r (A r) L F G Ts round c sound is_true n
+pub facts_stay_true : (A : Setting → Analysis) → FactsStayTrue A
+facts_stay_true A S L F G Ts round c sound is_true n = stay_true S.repo (A S) L F G Ts round c sound is_true n
 
-pub rounds_stay_true : (A : Linked → Analysis) → RoundsStayTrue A
-rounds_stay_true A r L first top c start n F is = (
-  by_rounds r (A r) L first top c start n F is,
-  λ Ts G round m. sound_run r (A r) L F G Ts round c (starts_sound r (A r) L F G Ts round c start) (by_rounds r (A r) L first top c start n F is) m,
+pub rounds_stay_true : (A : Setting → Analysis) → RoundsStayTrue A
+rounds_stay_true A S L first top c start n F is = (
+  by_rounds S.repo (A S) L first top c start n F is,
+  λ Ts G round m.
+      sound_run S.repo (A S) L F G Ts round c (starts_sound S.repo (A S) L F G Ts round c start) (by_rounds S.repo (A S) L first top c start n F is) m,
 )

@@ -5,6 +5,7 @@ use Rattle.type_lattice.specs.declared.types.StrPart.TheVariants as strs
 use Rattle.type_lattice.specs.declared.types.HType.{HType}
 use Rattle.type_lattice.specs.Types.{never}
 use Rattle.hhbc_repo.specs.Linked.{Linked}
+use Rattle.hhbc_repo.specs.Bare.{bare}
 
 -- a native: how many arguments it takes, and the type of what it answers
 pub record NativeRow : Type 0 where
@@ -36,3 +37,7 @@ six_natives =
 -- the repository with these
 abbrev pub with_six : Linked → Setting
 with_six r = record { natives = six_natives; repo = r }
+
+-- the setting, its repository without assertions and stated types
+abbrev pub bare_setting : Setting → Setting
+bare_setting S = record S { repo = bare S.repo }

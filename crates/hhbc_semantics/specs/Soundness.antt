@@ -6,6 +6,7 @@ use Rattle.hhbc_repo.specs.declared.body.Body.{Body}
 use Rattle.hhbc_repo.specs.Linked.{Linked}
 use Rattle.hhbc_repo.specs.Bodies.{body_at, code_at}
 use Rattle.hhbc_repo.specs.Codes.{throws}
+use Rattle.hhbc_semantics.specs.Setting.{Setting}
 use Rattle.hhbc_semantics.specs.Outcome.{Outcome, Stuck, Why}
 use Rattle.hhbc_semantics.specs.Frames.{World, Frame, Turn, Goes, Calls, Returns, Raises, Ends, Fails, Sticks}
 use Rattle.hhbc_semantics.specs.Steps.{Config, Running, Ended, after_call, caught, steps_by}
@@ -158,17 +159,17 @@ module _ (r : Linked) (A : Analysis) where
   Starts (Ended o w) = ((why : Why) → o ≡ Stuck why → ⊥) × ((G : A.Facts) → A.Shares G w)
 
 -- from a sound configuration, facts that are true in a run stay true after a round, and each configuration is sound
-abbrev pub FactsStayTrue : (Linked → Analysis) → Type 0
+abbrev pub FactsStayTrue : (Setting → Analysis) → Type 0
 FactsStayTrue A =
-    (r : Linked) → Laws r (A r) → (F G : (A r).Facts) (Ts : Tables r (A r)) → IsRoundBy r (A r) F Ts G
-    → (c : Config) → Sound r (A r) Ts G c → ((n : ℕ) → TrueOf r (A r) F (steps_by (A r).turn r c n))
-    → (n : ℕ) → Sound r (A r) Ts G (steps_by (A r).turn r c n) × TrueOf r (A r) G (steps_by (A r).turn r c n)
+    (S : Setting) → Laws S.repo (A S) → (F G : (A S).Facts) (Ts : Tables S.repo (A S)) → IsRoundBy S.repo (A S) F Ts G
+    → (c : Config) → Sound S.repo (A S) Ts G c → ((n : ℕ) → TrueOf S.repo (A S) F (steps_by (A S).turn S.repo c n))
+    → (n : ℕ) → Sound S.repo (A S) Ts G (steps_by (A S).turn S.repo c n) × TrueOf S.repo (A S) G (steps_by (A S).turn S.repo c n)
 
 -- from facts that are true of every configuration, the facts after any number of rounds are true in every run,
 -- and each configuration is sound by each round from them
-abbrev pub RoundsStayTrue : (Linked → Analysis) → Type 0
+abbrev pub RoundsStayTrue : (Setting → Analysis) → Type 0
 RoundsStayTrue A =
-    (r : Linked) → Laws r (A r) → (first : (A r).Facts) → ((c : Config) → TrueOf r (A r) first c) → (c : Config) → Starts r (A r) c
-    → (n : ℕ) (F : (A r).Facts) → AreByRounds r (A r) first n F
-    → ((m : ℕ) → TrueOf r (A r) F (steps_by (A r).turn r c m))
-    × ((Ts : Tables r (A r)) (G : (A r).Facts) → IsRoundBy r (A r) F Ts G → (m : ℕ) → Sound r (A r) Ts G (steps_by (A r).turn r c m))
+    (S : Setting) → Laws S.repo (A S) → (first : (A S).Facts) → ((c : Config) → TrueOf S.repo (A S) first c) → (c : Config) → Starts S.repo (A S) c
+    → (n : ℕ) (F : (A S).Facts) → AreByRounds S.repo (A S) first n F
+    → ((m : ℕ) → TrueOf S.repo (A S) F (steps_by (A S).turn S.repo c m))
+    × ((Ts : Tables S.repo (A S)) (G : (A S).Facts) → IsRoundBy S.repo (A S) F Ts G → (m : ℕ) → Sound S.repo (A S) Ts G (steps_by (A S).turn S.repo c m))

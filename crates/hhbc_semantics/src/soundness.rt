@@ -1,18 +1,18 @@
 //! What may be known of the frames of a machine stays true of its runs: laws, each the contract of a
 //! function that does nothing.
 
-ghost use Rattle.hhbc_repo.specs.Linked.{Linked};
+ghost use Rattle.hhbc_semantics.specs.Setting.{Setting};
 ghost use Rattle.hhbc_semantics.specs.Soundness.{Analysis, FactsStayTrue, RoundsStayTrue};
 ghost use Rattle.hhbc_semantics.specs.Sample.{SampleIsTrue};
 ghost use Rattle.hhbc_semantics.specs.Tested.{TestsOnlyStop};
 
-/// An analysis of the runs of every repository.
+/// An analysis of the runs of every repository, with natives that it may call.
 ///
 /// The types of slots are one, with the flows of the abstract step, membership of types, and what
 /// bodies return and properties hold as facts. The shapes of stacks are another, with edges as flows.
 pub trait Analysed {
     /// What the codes do, what is known of frames, and how it flows.
-    ghost analysis: { Linked → Analysis };
+    ghost analysis: { Setting → Analysis };
 }
 
 /// Facts that are true in a run stay true after a round under them, from each configuration in which
