@@ -1,6 +1,7 @@
 pub mod FirstForm
 pub mod Growing
 pub mod LocalCodes
+pub mod OnlyLocal
 mod SampleExamples
 pub mod SampleTrue
 pub mod ShapeLaws

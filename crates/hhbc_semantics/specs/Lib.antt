@@ -2,6 +2,7 @@ pub mod Exceptions
 pub mod Form
 pub mod Frames
 pub mod Growth
+pub mod LocalCodes
 pub mod Machine
 pub mod Operands
 pub mod Outcome

@@ -38,6 +38,10 @@ six_natives =
 abbrev pub with_six : Linked → Setting
 with_six r = record { natives = six_natives; repo = r }
 
+-- the natives with another repository
+abbrev pub with_repo : Setting → Linked → Setting
+with_repo S r = record S { repo = r }
+
 -- the setting, its repository without assertions and stated types
 abbrev pub bare_setting : Setting → Setting
-bare_setting S = record S { repo = bare S.repo }
+bare_setting S = with_repo S (bare S.repo)

@@ -16,7 +16,7 @@ use Rattle.hhbc_repo.specs.Bodies.{bodies, tree_of, properties_of}
 use Rattle.hhbc_repo.specs.Bare.{bare}
 use Rattle.hhbc_semantics.specs.Form.{IsFirstForm, IsSecondForm}
 use Rattle.hhbc_repo.specs.Shapes.{Types}
-use Rattle.hhbc_semantics.specs.Setting.{Setting, bare_setting}
+use Rattle.hhbc_semantics.specs.Setting.{Setting, with_repo, bare_setting}
 use Rattle.hhbc_semantics.specs.Outcome.{Why, Stuck}
 use Rattle.hhbc_semantics.specs.Frames.{World, Frame, Returns}
 use Rattle.hhbc_semantics.specs.Machine.{turn}
@@ -94,11 +94,11 @@ IsNeverStuck S =
 abbrev pub RunsAs : Setting → Setting → Type 0
 RunsAs a r = (entry : List ℕ) (args : List Cell) (n : ℕ) → AreArguments args → run a entry args n true ≡ run r entry args n false
 
--- the repository of the second setting is an annotated form of the first's that changes no run and says nothing false
-pub record IsFaithful (r a : Setting) : Type 0 where
-  pub runs : RunsAs a r
-  pub claims : ClaimsAreTrue a
-  pub never : IsNeverStuck r × IsNeverStuck a
+-- an annotated form of the setting's repository that changes no run and says nothing false
+pub record IsFaithful (S : Setting) (a : Linked) : Type 0 where
+  pub runs : RunsAs (with_repo S a) S
+  pub claims : ClaimsAreTrue (with_repo S a)
+  pub never : IsNeverStuck S × IsNeverStuck (with_repo S a)
 
 -- no run of a repository of the first form that keeps to its shapes is stuck
 abbrev pub FirstFormNeverSticks : Type 0
