@@ -1,10 +1,20 @@
+pub mod Branches
+pub mod CallTurns
+pub mod Containers
+pub mod Entering
 pub mod Exceptions
 pub mod Form
 pub mod Frames
 pub mod Growth
+pub mod Immediates
+pub mod Iterators
+pub mod Limits
 pub mod LocalCodes
+pub mod Locals
 pub mod Machine
+pub mod Objects
 pub mod Operands
+pub mod Operators
 pub mod Outcome
 pub mod PlainTypes
 pub mod Rows
@@ -16,4 +26,5 @@ pub mod Soundness
 pub mod Steps
 pub mod Tested
 pub mod Truth
+pub mod Verification
 pub mod Walks
