@@ -22,6 +22,7 @@ pub mod Run
 pub mod Sample
 pub mod Setting
 pub mod ShapeAnalysis
+pub mod ShapeRows
 pub mod Soundness
 pub mod Steps
 pub mod Tested
