@@ -4,8 +4,13 @@ pub mod Frames
 pub mod Growth
 pub mod LocalCodes
 pub mod Machine
+pub mod MemberSequences
 pub mod Operands
+pub mod Operators
 pub mod Outcome
+pub mod PathKeys
+pub mod PathReads
+pub mod PathWrites
 pub mod PlainTypes
 pub mod Rows
 pub mod Run
