@@ -106,12 +106,12 @@ module _ (S : Setting) where
   steps_true : OnlyLocalCodes S.repo → (n : ℕ) (F : Facts) → IsFacts S.repo n F → (entry : List ℕ) (args : List Cell) (m : ℕ)
       → soundness.TrueOf S.repo (by_types S) F (steps_by (λ f w. turn S f w) S.repo (start S entry args) m)
   steps_true local n F is entry args m =
-      (rounds_stay_true by_types S (type_laws S.repo) (top S.repo) top_true (start S entry args) (starts_here entry args) n F (by_rounds n F is)).0 m
+      (rounds_stay_true by_types S (type_laws S local) (top S.repo) top_true (start S entry args) (starts_here entry args) n F (by_rounds n F is)).0 m
 
   steps_sound : OnlyLocalCodes S.repo → (n : ℕ) (F : Facts) → IsFacts S.repo n F → (Ts : List Table) → AreLeast S.repo F Ts → (entry : List ℕ) (args : List Cell) (m : ℕ)
       → Sound S.repo (by_types S) Ts no_facts (steps_by (λ f w. turn S f w) S.repo (start S entry args) m)
   steps_sound local n F is Ts l entry args m =
-      (rounds_stay_true by_types S (type_laws S.repo) (top S.repo) top_true (start S entry args) (starts_here entry args) n F (by_rounds n F is)).1 Ts no_facts
+      (rounds_stay_true by_types S (type_laws S local) (top S.repo) top_true (start S entry args) (starts_here entry args) n F (by_rounds n F is)).1 Ts no_facts
       (round_for_none F Ts l) m
 
   lies_in : (Ts : List Table) (f : Frame) (w : World) → Lies S.repo (by_types S) Ts f w → LiesIn S.repo Ts f w.heap
