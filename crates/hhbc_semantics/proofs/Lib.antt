@@ -1,3 +1,4 @@
+pub mod BareShapes
 pub mod FirstForm
 pub mod Growing
 pub mod LocalCodes

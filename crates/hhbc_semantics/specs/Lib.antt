@@ -1,3 +1,4 @@
+pub mod Accepted
 pub mod Branches
 pub mod CallTurns
 pub mod Containers
