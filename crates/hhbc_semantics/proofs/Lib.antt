@@ -3,6 +3,7 @@ pub mod FirstForm
 pub mod Growing
 pub mod LocalCodes
 pub mod OnlyLocal
+pub mod Operands
 mod SampleExamples
 pub mod SampleTrue
 pub mod ShapeLaws

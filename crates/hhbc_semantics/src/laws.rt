@@ -1,6 +1,6 @@
 //! Laws of the definitions, each the contract of a function that does nothing.
 
-ghost use Rattle.hhbc_semantics.specs.Accepted.{BareIsAccepted};
+ghost use Rattle.hhbc_semantics.specs.Accepted.{AcceptedHasOperands, BareIsAccepted};
 ghost use Rattle.hhbc_semantics.specs.Truth.{FirstFormNeverSticks, SecondFormNeverSticks, RunsAsBare, BareIsFirstForm};
 ghost use Rattle.hhbc_semantics.specs.ShapeAnalysis.{LocalCodesNeverStick};
 ghost use Rattle.hhbc_semantics.specs.Walks.{TypesWhereItWalks, TypesWhereAssertedWalks};
@@ -51,4 +51,10 @@ pub fn bare_is_first_form()
 /// claims, is one too.
 pub fn bare_is_accepted()
     ensures { BareIsAccepted }
+{}
+
+/// Each code of a repository that the program takes has its operands, within what its body and the
+/// repository have; its bodies have their parameters among their locals.
+pub fn accepted_has_operands()
+    ensures { AcceptedHasOperands }
 {}
