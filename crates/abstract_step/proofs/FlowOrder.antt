@@ -150,4 +150,4 @@ pub flow_is_monotone : FlowIsMonotone
 flow_is_monotone r F G n p s t facts alive h = body_le (tree_of r) r F G n (body_at r n) p s t h
 
 pub code_fits_row : CodeFitsRow
-code_fits_row r F n c b f w s h = fits_code (tree_of r) f w r F n c b s h
+code_fits_row S F n c b f w s local h = fits_code (tree_of S.repo) f w S F n c b s local h

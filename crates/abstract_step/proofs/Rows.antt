@@ -20,8 +20,13 @@ use Rattle.hhbc_repo.specs.declared.code.Imm.{Imm}
 use Rattle.hhbc_repo.specs.declared.body.Body.{Body}
 use Rattle.hhbc_repo.specs.Linked.{Linked}
 use Rattle.hhbc_repo.specs.Codes.{local_of, int_of}
+use Rattle.hhbc_semantics.specs.Setting.{Setting}
+use Rattle.hhbc_semantics.specs.LocalCodes.{IsLocalOp, IsLocalCode}
 use Rattle.hhbc_semantics.specs.Truth.{Facts}
-use Rattle.hhbc_semantics.specs.Machine.{World, Frame, Turn, with_cell, read_slot, perform, perform_code}
+use Rattle.hhbc_semantics.specs.Frames.{World, Frame, Turn}
+use Rattle.hhbc_semantics.specs.Machine.{perform_code}
+use Rattle.hhbc_semantics.specs.Operands.{with_cell, read_slot}
+use Rattle.hhbc_semantics.specs.Rows.{perform}
 use Rattle.abstract_step.specs.State.{State, AllLe, StateLe}
 use Rattle.abstract_step.specs.Flow.{Row, nothing, undefined_row, with_type, with_local_type, op_row, row}
 pub use Rattle.abstract_step.specs.Laws.{Lies, LiesBehind, Fits}
@@ -132,27 +137,27 @@ module _ (tree : Tree) (f : Frame) (w : World) where
   fits_local (Some (slots.Cell c)) None name go to h k = absurd h
   fits_local (Some (slots.Cell c)) (Some t) name go to h k = k c (initialised t) (cell_in-initialised tree w.heap c t h)
 
-  pub fits_op : (r : Linked) (F : Facts) (n : ℕ) (op : Op) (imms : List Imm) (b : Body) (s : State) → Lies tree f w.heap s
-      → Fits tree f w (op_row r F n op imms s) (perform op imms b f w)
-  fits_op r F n ops.Null imms b s h = (record { locals = h.locals; stack = (refl, h.stack) }, refl, refl, refl)
-  fits_op r F n ops.True imms b s h = (record { locals = h.locals; stack = (refl, h.stack) }, refl, refl, refl)
-  fits_op r F n ops.False imms b s h = (record { locals = h.locals; stack = (refl, h.stack) }, refl, refl, refl)
-  fits_op r F n ops.Int imms b s h =
+  pub fits_op : (S : Setting) (F : Facts) (n : ℕ) (op : Op) (imms : List Imm) (b : Body) (s : State) → IsLocalOp op → Lies tree f w.heap s
+      → Fits tree f w (op_row S.repo F n op imms s) (perform S op imms b f w)
+  fits_op S F n ops.Null imms b s local h = (record { locals = h.locals; stack = (refl, h.stack) }, refl, refl, refl)
+  fits_op S F n ops.True imms b s local h = (record { locals = h.locals; stack = (refl, h.stack) }, refl, refl, refl)
+  fits_op S F n ops.False imms b s local h = (record { locals = h.locals; stack = (refl, h.stack) }, refl, refl, refl)
+  fits_op S F n ops.Int imms b s local h =
       (record { locals = h.locals; stack = ((Decides-int_eq (int_of imms) (int_of imms)).1 refl, h.stack) }, refl, refl, refl)
-  fits_op r F n ops.PopC imms b s h =
+  fits_op S F n ops.PopC imms b s local h =
       fits_cell f.stack s.stack _ _ h.stack (λ c rest t more m k. (record { locals = h.locals; stack = k }, refl, refl, refl))
-  fits_op r F n ops.SetL imms b s h =
+  fits_op S F n ops.SetL imms b s local h =
       fits_cell f.stack s.stack _ _ h.stack
       (λ c rest t more m k.
       (record { locals = AreMembers-set tree w.heap f.locals s.locals (local_of imms) (slots.Cell c) t h.locals m; stack = h.stack }, refl, refl, refl))
-  fits_op r F n ops.CGetL imms b s h =
+  fits_op S F n ops.CGetL imms b s local h =
       fits_local _ _ _ _ _ (AreMembers-get tree w.heap f.locals s.locals (local_of imms) h.locals)
       (λ c t m. (record { locals = h.locals; stack = (m, h.stack) }, refl, refl, refl))
-  fits_op r F n ops.RetC imms b s h =
+  fits_op S F n ops.RetC imms b s local h =
       fits_cell f.stack s.stack _ _ h.stack (λ c rest t more m k. (m, refl))
-  fits_op r F n _ imms b s h = tt
+  fits_op S F n _ imms b s local h = absurd local
 
-  pub fits_code : (r : Linked) (F : Facts) (n : ℕ) (c : Code) (b : Body) (s : State) → Lies tree f w.heap s
-      → Fits tree f w (row r F n c s) (perform_code (Some c) b f w)
-  fits_code r F n (kinds.Plain i) b s h = fits_op r F n i.op i.imms b s h
-  fits_code r F n (kinds.Member m) b s h = tt
+  pub fits_code : (S : Setting) (F : Facts) (n : ℕ) (c : Code) (b : Body) (s : State) → IsLocalCode c → Lies tree f w.heap s
+      → Fits tree f w (row S.repo F n c s) (perform_code S (Some c) b f w)
+  fits_code S F n (kinds.Plain i) b s local h = fits_op S F n i.op i.imms b s local h
+  fits_code S F n (kinds.Member m) b s local h = absurd local

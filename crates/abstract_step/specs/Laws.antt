@@ -8,8 +8,11 @@ use Rattle.hhbc_repo.specs.declared.code.Code.{Code}
 use Rattle.hhbc_repo.specs.declared.body.Body.{Body}
 use Rattle.hhbc_repo.specs.Linked.{Linked}
 use Rattle.hhbc_repo.specs.Bodies.{tree_of}
+use Rattle.hhbc_semantics.specs.Setting.{Setting}
+use Rattle.hhbc_semantics.specs.LocalCodes.{IsLocalCode}
 use Rattle.hhbc_semantics.specs.Truth.{Facts}
-use Rattle.hhbc_semantics.specs.Machine.{World, Frame, Turn, Goes, Calls, Returns, Raises, Ends, perform_code}
+use Rattle.hhbc_semantics.specs.Frames.{World, Frame, Turn, Goes, Calls, Returns, Raises, Ends}
+use Rattle.hhbc_semantics.specs.Machine.{perform_code}
 use Rattle.abstract_step.specs.State.{State, AllLe, StateLe, is_alive}
 use Rattle.abstract_step.specs.Flow.{Row, Flows, row, flow}
 
@@ -47,8 +50,8 @@ Fits tree f w o (Returns c v) = (cell_in tree w.heap c o.returned ≡ true) × (
 Fits tree f w o (Raises e v) = Unit {0}
 Fits tree f w o (Ends e v) = Unit {0}
 
--- the step law for codes that stay in their frame: from a frame that lies in a state, what a code does is in its row
+-- the step law for the codes that the flow has rows for: from a frame that lies in a state, what a code does is in its row
 abbrev pub CodeFitsRow : Type 0
 CodeFitsRow =
-    (r : Linked) (F : Facts) (n : ℕ) (c : Code) (b : Body) (f : Frame) (w : World) (s : State) → Lies (tree_of r) f w.heap s
-    → Fits (tree_of r) f w (row r F n c s) (perform_code (Some c) b f w)
+    (S : Setting) (F : Facts) (n : ℕ) (c : Code) (b : Body) (f : Frame) (w : World) (s : State) → IsLocalCode c → Lies (tree_of S.repo) f w.heap s
+    → Fits (tree_of S.repo) f w (row S.repo F n c s) (perform_code S (Some c) b f w)

@@ -7,7 +7,8 @@ pub fn flow_is_monotone()
     ensures { FlowIsMonotone }
 {}
 
-/// From a frame whose slots are of the types of a state, what a code does is in its row.
+/// From a frame whose slots are of the types of a state, what one of the codes of constants and locals
+/// does is in its row.
 pub fn code_fits_row()
     ensures { CodeFitsRow }
 {}

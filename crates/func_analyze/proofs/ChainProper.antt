@@ -1,9 +1,9 @@
 -- The types along a body without jumps are proper.
-use Rattle.std.proofs.Common.{ℕ, zero, suc, ◌-◌, refl, Bool, true, false, Option, Some, None, List, [], ◌∷◌, ◌++◌, replicate, slice_get, slice_set, length, cond, w64, FitsSigned}
+use Rattle.std.proofs.Common.{ℕ, zero, suc, ◌-◌, Bool, true, false, Option, Some, None, List, [], ◌∷◌, ◌++◌, replicate, slice_get, slice_set, length, cond, w64, FitsSigned}
 use Rattle.hhbc_ops.specs.declared.op.Op.{Op}
 use Rattle.hhbc_ops.specs.declared.op.Op.TheVariants as ops
 use Rattle.type_lattice.specs.declared.types.HType.{HType}
-use Rattle.type_lattice.specs.Types.{never, uninit, cell, initialised}
+use Rattle.type_lattice.specs.Types.{uninit, cell, initialised}
 use Rattle.type_lattice.specs.Proper.{IsProper}
 use Rattle.type_lattice.proofs.Singles.{never_proper, uninit_proper, cell_proper}
 use Rattle.hhbc_repo.specs.declared.code.Code.{Code}

@@ -11,7 +11,7 @@ use Rattle.hhbc_repo.specs.declared.body.Assert.TheVariants as asserts
 use Rattle.hhbc_repo.specs.declared.body.Position.{Position}
 use Rattle.hhbc_repo.specs.Bodies.{asserts_of}
 use Rattle.hhbc_repo.specs.Codes.{Flavour, reads_locals, pops}
-use Rattle.hhbc_semantics.specs.Machine.{Frame}
+use Rattle.hhbc_semantics.specs.Frames.{Frame}
 use Rattle.hhbc_semantics.specs.Run.{slot_in, holds, and_then, test}
 use Rattle.abstract_step.specs.State.{State}
 use Rattle.abstract_step.proofs.StateOrder.{BothAt, AreMembers-get}

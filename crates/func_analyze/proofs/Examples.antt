@@ -13,7 +13,7 @@ use Rattle.hhbc_repo.specs.declared.code.Code.TheVariants as kinds
 use Rattle.hhbc_repo.specs.declared.code.Imm.TheVariants as imms
 use Rattle.hack_values.specs.declared.cell.Cell.TheVariants as cells
 use Rattle.type_lattice.specs.declared.types.StrPart.TheVariants as strs
-use Rattle.hhbc_repo.specs.Linked.{Linked}
+use Rattle.hhbc_semantics.specs.Setting.{Setting, with_six}
 use Rattle.hhbc_semantics.specs.Outcome.{Outcome, Returned, Uncaught, AssertFalse, Steps}
 use Rattle.hhbc_semantics.specs.Run.{run}
 use Rattle.hhbc_repo.specs.Shapes.{fault_at, Underflow, FallsOff}
@@ -73,8 +73,8 @@ unset_states : (annotated_main (main_of (map bare_code unset))).stated ≡ Some 
 unfolding main_of bare_code unset
 unset_states = refl
 
-one : Body → Linked
-one b = record { functions = b ∷ []; classes = [] }
+one : Body → Setting
+one b = with_six (record { functions = b ∷ []; classes = [] })
 
 runs_to : Body → ℕ → Bool → Outcome
 runs_to b n asserted = (run (one b) (codes "main") [] n asserted).outcome

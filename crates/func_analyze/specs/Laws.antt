@@ -6,6 +6,8 @@ use Rattle.hhbc_repo.specs.declared.code.Code.TheVariants as kinds
 use Rattle.hhbc_repo.specs.declared.body.Position.{Position}
 use Rattle.hhbc_repo.specs.Codes.{int_of}
 use Rattle.hhbc_repo.specs.Linked.{Linked}
+use Rattle.hhbc_semantics.specs.Setting.{Setting}
+use Rattle.hhbc_semantics.specs.LocalCodes.{OnlyLocalCodes}
 use Rattle.hhbc_semantics.specs.Form.{IsFirstForm, IsSecondForm}
 use Rattle.hhbc_repo.specs.Bare.{bare}
 use Rattle.hhbc_semantics.specs.Truth.{Facts, AreTrue, IsNeverStuck, IsFaithful}
@@ -36,18 +38,19 @@ AreWords (p ∷ ps) = IsWord p.code × AreWords ps
 abbrev pub ChainAnnotates : Type 0
 ChainAnnotates = (r : Linked) (form : IsFirstForm r) → AreWords form.body.positions → (n : ℕ) → IsAnnotated (suc n) r (annotated_by r)
 
--- the annotated repository, after any number of rounds, runs as the original does, all its claims are true, and no run of it is stuck where none
--- of the original is
+-- where the flow has rows for all codes, the annotated repository, after any number of rounds, runs as the original does, all its claims are true,
+-- and no run of it is stuck where none of the original is
 abbrev pub AnnotatedIsFaithful : Type 0
-AnnotatedIsFaithful = (r a : Linked) (n : ℕ) → IsAnnotated n r a → IsNeverStuck r → IsFaithful r a
+AnnotatedIsFaithful =
+    (S : Setting) (a : Linked) (n : ℕ) → OnlyLocalCodes S.repo → IsAnnotated n S.repo a → IsNeverStuck S → IsFaithful S a
 
 -- a repository of the first form has one annotated repository
 abbrev pub AnnotatedIsUnique : Type 0
 AnnotatedIsUnique = (r a : Linked) (form : IsFirstForm r) → AreWords form.body.positions → (n : ℕ) → IsAnnotated (suc n) r a → a ≡ annotated_by r
 
--- the facts after any number of rounds are true in every run
+-- the facts after any number of rounds are true in every run, where the flow has rows for all codes
 abbrev pub FactsAreTrue : Type 0
-FactsAreTrue = (r : Linked) (n : ℕ) (F : Facts) → IsFacts (bare r) n F → AreTrue r F
+FactsAreTrue = (S : Setting) (n : ℕ) (F : Facts) → OnlyLocalCodes S.repo → IsFacts (bare S.repo) n F → AreTrue S F
 
 -- a repository of the second form is annotated along its codes as they stand without claims
 abbrev pub BareChainAnnotates : Type 0
@@ -55,7 +58,7 @@ BareChainAnnotates = (r : Linked) (form : IsSecondForm r) → AreWords form.body
 
 -- the annotated repository of one of the second form is faithful to it
 abbrev pub SecondIsFaithful : Type 0
-SecondIsFaithful = (r a : Linked) → IsSecondForm r → Types r → (n : ℕ) → IsAnnotated (suc n) r a → IsFaithful r a
+SecondIsFaithful = (S : Setting) (a : Linked) → IsSecondForm S.repo → Types S.repo → (n : ℕ) → IsAnnotated (suc n) S.repo a → IsFaithful S a
 
 -- a repository of the second form has one annotated repository
 abbrev pub SecondIsUnique : Type 0

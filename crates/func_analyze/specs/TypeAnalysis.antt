@@ -8,8 +8,11 @@ use Rattle.hhbc_repo.specs.declared.body.Body.{Body}
 use Rattle.hhbc_repo.specs.Linked.{Linked}
 use Rattle.hhbc_repo.specs.Bodies.{body_at, tree_of}
 use Rattle.hhbc_repo.specs.Bare.{bare}
+use Rattle.hhbc_semantics.specs.Setting.{Setting}
+use Rattle.hhbc_semantics.specs.LocalCodes.{OnlyLocalCodes}
 use Rattle.hhbc_semantics.specs.Growth.{WorldGrows}
-use Rattle.hhbc_semantics.specs.Machine.{Frame, turn}
+use Rattle.hhbc_semantics.specs.Frames.{Frame}
+use Rattle.hhbc_semantics.specs.Machine.{turn}
 use Rattle.hhbc_semantics.specs.Steps.{Config, Running, Ended}
 use Rattle.hhbc_semantics.specs.Run.{state_after}
 use Rattle.hhbc_semantics.specs.Soundness.{Analysis, MayThrowAt}
@@ -24,30 +27,36 @@ abbrev pub entry_in : Option Body → State
 entry_in None = record { locals = []; stack = []; iters = [] }
 entry_in (Some b) = entry_state b
 
--- the second facts are above the types of initial values and above what the state at the position writes under the first
-pub record AreTaken (r : Linked) (F : Facts) (n p : ℕ) (s : State) (G : Facts) : Type 0 where
+-- the facts are above the types of initial values
+pub record AreBegun (r : Linked) (G : Facts) : Type 0 where
   pub initial : (q : ℕ) (t u : HType) → slice_get (initial_types r) q ≡ Some t → slice_get G.props q ≡ Some u → Le (tree_of r) t u
+
+-- the second facts are above what the state at the position writes under the first
+pub record AreTaken (r : Linked) (F : Facts) (n p : ℕ) (s : State) (G : Facts) : Type 0 where
   pub written : (q : ℕ) (t u : HType) → Contains (flow r F n p s).effects (record { property = q; type = t }) → slice_get G.props q ≡ Some u
       → Le (tree_of r) t u
 
--- frames lie in the types of states, and facts are types of what bodies return and properties hold
-abbrev pub by_types : Linked → Analysis
-by_types r = record {
-  turn = λ f w. turn r f w;
+-- frames lie in the types of states, and facts are types of what bodies return and properties hold; none of the codes that the flow has rows for
+-- calls a body
+abbrev pub by_types : Setting → Analysis
+by_types S = record {
+  turn = λ f w. turn S f w;
   State = State;
   Facts = Facts;
-  StateLe = λ s t. StateLe (tree_of r) s t;
+  StateLe = λ s t. StateLe (tree_of S.repo) s t;
+  Begins = λ F. AreBegun S.repo F;
   Grows = WorldGrows;
-  Holds = λ f s w. Lies (tree_of r) f w.heap s;
-  Shares = λ F w. HoldIn r (each F.props) w.heap;
-  MayReturn = λ F n c w. (t : HType) → slice_get (each F.returns) n ≡ Some (Some t) → cell_in (tree_of r) w.heap c t ≡ true;
-  IsRaised = λ c w. cell_in (tree_of r) w.heap c exception_type ≡ true;
-  MayThrow = λ n p. MayThrowAt r n p;
+  Holds = λ f s w. Lies (tree_of S.repo) f w.heap s;
+  Shares = λ F w. HoldIn S.repo (each F.props) w.heap;
+  MayReturn = λ F n c w. (t : HType) → slice_get (each F.returns) n ≡ Some (Some t) → cell_in (tree_of S.repo) w.heap c t ≡ true;
+  IsRaised = λ c w. cell_in (tree_of S.repo) w.heap c exception_type ≡ true;
+  MayThrow = λ n p. MayThrowAt S.repo n p;
   MayStick = λ n p s why. Unit {0};
-  entry = λ n. entry_in (body_at r n);
-  Flows = λ F n p s q t. Contains (flow r F n p s).to (q, t);
-  Gives = λ F n p s c w. cell_in (tree_of r) w.heap c (flow r F n p s).returned ≡ true;
-  Takes = λ F n p s G. AreTaken r F n p s G;
+  entry = λ n. entry_in (body_at S.repo n);
+  Flows = λ F n p s q t. Contains (flow S.repo F n p s).to (q, t);
+  MayCall = λ F n p s m. ⊥;
+  Gives = λ F n p s c w. cell_in (tree_of S.repo) w.heap c (flow S.repo F n p s).returned ≡ true;
+  Takes = λ F n p s G. AreTaken S.repo F n p s G;
 }
 
 -- the frame lies in the state that its body's table has at its position
@@ -67,9 +76,9 @@ abbrev pub FramesLieIn : Linked → List Table → Config → Type 0
 FramesLieIn r Ts (Running f fs w) = AllLieIn r Ts (f ∷ fs) w.heap
 FramesLieIn r Ts (Ended o w) = Unit {0}
 
--- in every state of every run each frame lies in the least solution under the facts after any number of rounds
+-- in every state of every run each frame lies in the least solution under the facts after any number of rounds, where the flow has rows for all codes
 abbrev pub FramesLie : Type 0
 FramesLie =
-    (r : Linked) (n : ℕ) (F : Facts) → IsFacts (bare r) n F → (Ts : List Table) → AreLeast (bare r) F Ts
+    (S : Setting) (n : ℕ) (F : Facts) → OnlyLocalCodes S.repo → IsFacts (bare S.repo) n F → (Ts : List Table) → AreLeast (bare S.repo) F Ts
     → (entry : List ℕ) (args : List Cell) (asserted : Bool) (m : ℕ) → AreArguments args
-    → FramesLieIn (bare r) Ts (state_after r entry args asserted m)
+    → FramesLieIn (bare S.repo) Ts (state_after S entry args asserted m)

@@ -5,8 +5,10 @@ use Rattle.hack_values.specs.declared.cell.Cell.TheVariants as cells
 use Rattle.hack_values.specs.declared.cell.Slot.{Slot}
 use Rattle.hack_values.specs.declared.cell.Slot.TheVariants as slots
 use Rattle.hack_values.specs.declared.memory.NoMemory.{NoMemory}
-use Rattle.hhbc_semantics.specs.Machine.{Frame, undefined_variable, raises, name_or_none}
-use Rattle.hhbc_semantics.specs.Machine as machines
+use Rattle.hhbc_semantics.specs.Exceptions.{undefined_variable, raises}
+use Rattle.hhbc_semantics.specs.Frames.{Frame}
+use Rattle.hhbc_semantics.specs.Operands.{name_or_none}
+use Rattle.hhbc_semantics.specs.Frames as frames
 use Rattle.hhbc_semantics.specs.Outcome.{Outcome, Place, Underflow}
 use Rattle.hhbc_semantics.specs.Outcome as outcomes
 use Rattle.hhbc_semantics.specs.Run.{no_world}
@@ -50,11 +52,11 @@ abbrev pub undefined : List (List ℕ) → ℕ → List ℕ
 undefined locals l = codes "undefined $" ++ name_or_none (slice_get locals l)
 
 -- what a code did, from the names of the locals and the frame behind it
-abbrev pub turn_of : List (List ℕ) → Turn → Frame → machines.Turn
-turn_of locals turns.Goes f = machines.Goes f no_world
-turn_of locals (turns.Returns v) f = machines.Returns (cell_of v) no_world
+abbrev pub turn_of : List (List ℕ) → Turn → Frame → frames.Turn
+turn_of locals turns.Goes f = frames.Goes f no_world
+turn_of locals (turns.Returns v) f = frames.Returns (cell_of v) no_world
 turn_of locals (turns.Raises l) f = raises undefined_variable (undefined locals l) no_world
-turn_of locals turns.Sticks f = machines.Ends (machines.Sticks Underflow) no_world
+turn_of locals turns.Sticks f = frames.Ends (frames.Sticks Underflow) no_world
 
 abbrev pub place : ℕ → Place
 place p = record { body = 0; position = p }

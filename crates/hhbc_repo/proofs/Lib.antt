@@ -34,7 +34,7 @@ pub mod SpelledLengths
 mod CanonicalExamples
 pub mod BodiesPass
 mod FewIterators
-mod WithinRanges
+pub mod WithinRanges
 pub mod Clearing
 pub mod TypesBack
 pub mod CodesBack

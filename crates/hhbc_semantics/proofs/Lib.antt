@@ -1,6 +1,9 @@
+pub mod BareShapes
 pub mod FirstForm
 pub mod Growing
 pub mod LocalCodes
+pub mod OnlyLocal
+pub mod Operands
 mod SampleExamples
 pub mod SampleTrue
 pub mod ShapeLaws

@@ -13,14 +13,15 @@ use Rattle.hhbc_repo.specs.declared.body.Body.{Body}
 use Rattle.hhbc_repo.specs.declared.body.Assert.{Assert}
 use Rattle.hhbc_repo.specs.declared.body.Assert.TheVariants as asserts
 use Rattle.hhbc_repo.specs.declared.body.Position.{Position}
-use Rattle.hhbc_repo.specs.Linked.{Linked}
 use Rattle.hhbc_repo.specs.Bodies.{body_at, code_of, code_at, asserts_at, tree_of}
 use Rattle.hhbc_repo.specs.Bodies.{asserts_of as asserts_in_position}
 use Rattle.hhbc_repo.specs.Bare.{bare, bare_position}
 use Rattle.hhbc_ops.specs.declared.words.Flavour.{Flavour}
 use Rattle.hhbc_repo.specs.Codes.{pops, slots_read, iter_use}
+use Rattle.hhbc_semantics.specs.Setting.{Setting, bare_setting}
 use Rattle.hhbc_semantics.specs.Form.{FitsCode, FitAsserts, IsSecondBody}
-use Rattle.hhbc_semantics.specs.Machine.{World, Frame, turn}
+use Rattle.hhbc_semantics.specs.Frames.{World, Frame}
+use Rattle.hhbc_semantics.specs.Machine.{turn}
 use Rattle.hhbc_semantics.specs.Outcome.{Outcome, Why, Underflow, Stuck, AssertFalse}
 use Rattle.hhbc_semantics.specs.Steps.{Config, Running, Ended, place_of, steps_by}
 use Rattle.hhbc_semantics.specs.Run.{slot_in, and_then, test, asserts_in, asserts_of, after, entered, start, result_of}
@@ -84,28 +85,28 @@ all_found tree heap f count (asserts.Stack i t ∷ more) e within r none =
     let s = slice_inside f.stack i (omega (arith, m)) in
     one_found tree heap (slice_get f.stack i) s.0 t (test tree heap f more) s.1 (all_found tree heap f count more e within k.1) none
 
-module _ (r : Linked) (codes : HasLocalCodes r) (types : Types r) where
-  keeps : Keeps (bare r)
+module _ (S : Setting) (codes : HasLocalCodes S.repo) (types : Types S.repo) where
+  keeps : Keeps (bare S.repo)
   keeps = record {
     codes = λ n b is p c at.
-        let x = body_bare r n b is in
+        let x = body_bare S.repo n b is in
         subst (λ (b : Body). FitsCode (length b.locals) c) x.2
         (codes.codes n x.0 x.1 p c (code_of_bare x.0 p c (subst (λ b. code_at b p ≡ Some c) (sym x.2) at)));
     starts = λ n b is.
-        let x = body_bare r n b is in
+        let x = body_bare S.repo n b is in
         subst (λ (b : Body). 0 < length b.positions) x.2
         (subst (λ m. 0 < m) (sym (length-map x.0.positions bare_position)) (some_position x.0.positions (types.has_positions n x.0 x.1)));
     passes = λ n b is p l.
-        let x = body_bare r n b is in
+        let x = body_bare S.repo n b is in
         let k = subst (λ m. p < m) (length-map x.0.positions bare_position) (subst (λ (b : Body). p < length b.positions) (sym x.2) l) in
         subst (λ b. Passes b p) x.2 (passes_bare x.0 p (passes x.0 p (types.passes n x.0 x.1 p k)));
   }
 
-  enters : (n : ℕ) (b : Body) (args : List Cell) → body_at (bare r) n ≡ Some b → length args ≡ b.params
-      → IsOfShape (bare r) (entered n b args) (entry_shape (body_at (bare r) n))
+  enters : (n : ℕ) (b : Body) (args : List Cell) → body_at (bare S.repo) n ≡ Some b → length args ≡ b.params
+      → IsOfShape (bare S.repo) (entered n b args) (entry_shape (body_at (bare S.repo) n))
   enters n b args is e =
-      let x = body_bare r n b is in
-      subst (λ o. IsOfShape (bare r) (entered n b args) (entry_shape o)) (sym is) (record {
+      let x = body_bare S.repo n b is in
+      subst (λ o. IsOfShape (bare S.repo) (entered n b args) (entry_shape o)) (sym is) (record {
         locals = λ c k.
             let same : b ≡ c = let j = sym is ∙ k in cc in
             subst (λ (c : Body). length (entered n b args).locals ≡ length c.locals) same
@@ -115,19 +116,19 @@ module _ (r : Linked) (codes : HasLocalCodes r) (types : Types r) where
       })
 
   sound : (entry : List ℕ) (args : List Cell) (m : ℕ)
-      → Sound (bare r) (by_shapes (bare r)) (tables (bare r) keeps) (tt {0}) (after r false (start r entry args) m)
+      → Sound (bare S.repo) (by_shapes (bare_setting S)) (tables (bare_setting S) keeps) (tt {0}) (after S false (start S entry args) m)
   sound entry args m =
-      subst (λ c. Sound (bare r) (by_shapes (bare r)) (tables (bare r) keeps) (tt {0}) c) (sym (after_steps r (start r entry args) m))
-      (subst (λ c. Sound (bare r) (by_shapes (bare r)) (tables (bare r) keeps) (tt {0}) (steps_by (λ f w. turn (bare r) f w) (bare r) c m)) (sym (same_start r entry args))
-      ((rounds_stay_true by_shapes (bare r) (shape_laws (bare r) keeps) (tt {0}) everything (start (bare r) entry args)
-      (starts (bare r) (by_shapes (bare r)) (λ G. tt) enters entry args) 0 (tt {0}) refl).1 (tables (bare r) keeps) (tt {0}) (shapes_solve (bare r) keeps) m))
+      subst (λ c. Sound (bare S.repo) (by_shapes (bare_setting S)) (tables (bare_setting S) keeps) (tt {0}) c) (sym (after_steps S (start S entry args) m))
+      (subst (λ c. Sound (bare S.repo) (by_shapes (bare_setting S)) (tables (bare_setting S) keeps) (tt {0}) (steps_by (λ f w. turn (bare_setting S) f w) (bare S.repo) c m)) (sym (same_start S entry args))
+      ((rounds_stay_true by_shapes (bare_setting S) (shape_laws (bare_setting S) keeps) (tt {0}) everything (start (bare_setting S) entry args)
+      (starts (bare_setting S) (by_shapes (bare_setting S)) (λ G b. tt) enters entry args) 0 (tt {0}) refl).1 (tables (bare_setting S) keeps) (tt {0}) (shapes_solve (bare_setting S) keeps) m))
     where
-      everything : (c : Config) → soundness.TrueOf (bare r) (by_shapes (bare r)) (tt {0}) c
+      everything : (c : Config) → soundness.TrueOf (bare S.repo) (by_shapes (bare_setting S)) (tt {0}) c
       everything (Running f fs w) = (tt, λ c v is. tt)
       everything (Ended o w) = tt
 
   -- the shape of a position has the slots that its code takes
-  has_slots : (n p : ℕ) (s : Shape) → Stands (bare r) keeps n p s → HasSlots (bare r) n p s
+  has_slots : (n p : ℕ) (s : Shape) → Stands (bare_setting S) keeps n p s → HasSlots (bare S.repo) n p s
   has_slots n p s here =
       let q = there here.body.positions p here.inside in
       let at = code_is here.body p q.0 q.1 in
@@ -154,51 +155,51 @@ module _ (r : Linked) (codes : HasLocalCodes r) (types : Types r) where
             (subst (λ o. AllPass (iter_checks (iter_use_of o) (given here.body p).live)) at pass.iters);
       }
 
-  ended_well : (c : Config) (o : Outcome) (w : World) (why : Why) → Sound (bare r) (by_shapes (bare r)) (tables (bare r) keeps) (tt {0}) c
+  ended_well : (c : Config) (o : Outcome) (w : World) (why : Why) → Sound (bare S.repo) (by_shapes (bare_setting S)) (tables (bare_setting S) keeps) (tt {0}) c
       → c ≡ Ended o w → o ≡ Stuck why → ⊥
   ended_well c o w why h e is =
-      let stuck = (subst (λ c. Sound (bare r) (by_shapes (bare r)) (tables (bare r) keeps) (tt {0}) c) e h).1 why is in
-      stuck.4 (has_slots stuck.0 stuck.1 stuck.2 (stands (bare r) keeps stuck.0 stuck.1 stuck.2 stuck.3))
+      let stuck = (subst (λ c. Sound (bare S.repo) (by_shapes (bare_setting S)) (tables (bare_setting S) keeps) (tt {0}) c) e h).1 why is in
+      stuck.4 (has_slots stuck.0 stuck.1 stuck.2 (stands (bare_setting S) keeps stuck.0 stuck.1 stuck.2 stuck.3))
 
   -- the assertions of a position find their slots
-  tests_found : (c : Config) (f : Frame) (fs : List Frame) (w : World) → Sound (bare r) (by_shapes (bare r)) (tables (bare r) keeps) (tt {0}) c
-      → c ≡ Running f fs w → test (tree_of r) w.heap f (asserts_of r f) ≡ None → ⊥
+  tests_found : (c : Config) (f : Frame) (fs : List Frame) (w : World) → Sound (bare S.repo) (by_shapes (bare_setting S)) (tables (bare_setting S) keeps) (tt {0}) c
+      → c ≡ Running f fs w → test (tree_of S.repo) w.heap f (asserts_of S.repo f) ≡ None → ⊥
   tests_found c f fs w h e none =
-      let lies = (subst (λ c. Sound (bare r) (by_shapes (bare r)) (tables (bare r) keeps) (tt {0}) c) e h).1 in
-      let here = stands (bare r) keeps f.body f.position lies.0 lies.1 in
-      let x = body_bare r f.body here.body here.at in
+      let lies = (subst (λ c. Sound (bare S.repo) (by_shapes (bare_setting S)) (tables (bare_setting S) keeps) (tt {0}) c) e h).1 in
+      let here = stands (bare_setting S) keeps f.body f.position lies.0 lies.1 in
+      let x = body_bare S.repo f.body here.body here.at in
       let l = subst (λ m. f.position < m) (length-map x.0.positions bare_position) (subst (λ (b : Body). f.position < length b.positions) (sym x.2) here.inside) in
       let shape : lies.0 ≡ given x.0 f.position = here.given ∙ ap (λ b. given b f.position) (sym x.2) ∙ given_bare x.0 f.position in
       let depth = same_depth f.stack lies.0.stack lies.2.stack in
       let locals : length f.locals ≡ length x.0.locals =
       lies.2.locals here.body here.at ∙ ap (λ (b : Body). length b.locals) (sym x.2) in
-      all_found (tree_of r) w.heap f (length x.0.locals) (asserts_at x.0 f.position) locals (codes.claims f.body x.0 x.1 f.position)
+      all_found (tree_of S.repo) w.heap f (length x.0.locals) (asserts_at x.0 f.position) locals (codes.claims f.body x.0 x.1 f.position)
       (subst (λ m. reaches (asserts_at x.0 f.position) m ≡ true) (sym (depth ∙ ap (λ (s : Shape). length s.stack) shape))
       (passes x.0 f.position (types.passes f.body x.0 x.1 f.position l)).reach)
-      (subst (λ o. test (tree_of r) w.heap f (asserts_in o f.position) ≡ None) x.1 none)
+      (subst (λ o. test (tree_of S.repo) w.heap f (asserts_in o f.position) ≡ None) x.1 none)
 
-  plain_result : (c : Config) (why : Why) → Sound (bare r) (by_shapes (bare r)) (tables (bare r) keeps) (tt {0}) c → (result_of c).outcome ≡ Stuck why → ⊥
+  plain_result : (c : Config) (why : Why) → Sound (bare S.repo) (by_shapes (bare_setting S)) (tables (bare_setting S) keeps) (tt {0}) c → (result_of c).outcome ≡ Stuck why → ⊥
   plain_result (Running f fs w) why h e = cc
   plain_result (Ended o w) why h e = ended_well (Ended o w) o w why h refl e
 
   stopped_result : (start : Config) (n : ℕ) (c : Config) (why : Why)
-      → ((m : ℕ) → Sound (bare r) (by_shapes (bare r)) (tables (bare r) keeps) (tt {0}) (after r false start m))
-      → (c ≡ after r false start n) ⊎ IsStopped r start n c → (result_of c).outcome ≡ Stuck why → ⊥
-  stopped_result start n c why h (inl e) is = plain_result (after r false start n) why (h n) (subst (λ c. (result_of c).outcome ≡ Stuck why) e is)
+      → ((m : ℕ) → Sound (bare S.repo) (by_shapes (bare_setting S)) (tables (bare_setting S) keeps) (tt {0}) (after S false start m))
+      → (c ≡ after S false start n) ⊎ IsStopped S start n c → (result_of c).outcome ≡ Stuck why → ⊥
+  stopped_result start n c why h (inl e) is = plain_result (after S false start n) why (h n) (subst (λ c. (result_of c).outcome ≡ Stuck why) e is)
   stopped_result start n c why h (inr s) is =
       by_stop s.stops (subst (λ c. (result_of c).outcome ≡ Stuck why) s.is is)
     where
-      by_stop : (s.outcome ≡ AssertFalse (place_of s.frame)) ⊎ ((s.outcome ≡ Stuck Underflow) × (test (tree_of r) s.world.heap s.frame (asserts_of r s.frame) ≡ None))
+      by_stop : (s.outcome ≡ AssertFalse (place_of s.frame)) ⊎ ((s.outcome ≡ Stuck Underflow) × (test (tree_of S.repo) s.world.heap s.frame (asserts_of S.repo s.frame) ≡ None))
           → s.outcome ≡ Stuck why → ⊥
       by_stop (inl e) is = cc
-      by_stop (inr e) is = tests_found (after r false start s.turns) s.frame s.below s.world (h s.turns) s.at e.1
+      by_stop (inr e) is = tests_found (after S false start s.turns) s.frame s.below s.world (h s.turns) s.at e.1
 
 pub local_codes_never_stick : LocalCodesNeverStick
-local_codes_never_stick r codes types entry args n true why legal is =
-    stopped_result r codes types (start r entry args) n (after r true (start r entry args) n) why (sound r codes types entry args)
-    (tests_only_stop r (start r entry args) n) is
-local_codes_never_stick r codes types entry args n false why legal is =
-    plain_result r codes types (after r false (start r entry args) n) why (sound r codes types entry args n) is
+local_codes_never_stick S codes types entry args n true why legal is =
+    stopped_result S codes types (start S entry args) n (after S true (start S entry args) n) why (sound S codes types entry args)
+    (tests_only_stop S (start S entry args) n) is
+local_codes_never_stick S codes types entry args n false why legal is =
+    plain_result S codes types (after S false (start S entry args) n) why (sound S codes types entry args n) is
 
 -- the forms that are read have such codes
 claims_within : (count : ℕ) (xs : List Assert) → FitAsserts count xs → AssertsWithin count xs
@@ -230,8 +231,8 @@ module _ (b : Body) (form : IsSecondBody b) where
   }
 
 pub second_form_never_sticks : SecondFormNeverSticks
-second_form_never_sticks r form types =
-    local_codes_never_stick r (subst (λ r. HasLocalCodes r) (sym (second_is r form)) (second_codes form.body form.second)) types
+second_form_never_sticks S form types =
+    local_codes_never_stick S (subst (λ r. HasLocalCodes r) (sym (second_is S.repo form)) (second_codes form.body form.second)) types
 
 pub first_form_never_sticks : FirstFormNeverSticks
-first_form_never_sticks r form types = second_form_never_sticks r (first_is_second r form) types
+first_form_never_sticks S form types = second_form_never_sticks S (first_is_second S.repo form) types

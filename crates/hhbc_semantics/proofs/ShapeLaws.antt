@@ -17,8 +17,12 @@ use Rattle.hhbc_ops.specs.declared.words.Flavour.{Flavour}
 use Rattle.hhbc_ops.specs.declared.words.Flavour.TheVariants.{C, U}
 use Rattle.hhbc_repo.specs.Codes.{local_of, op_pops, op_pushes, pops, pushes, iter_use, throws, goes_on, labels}
 use Rattle.hhbc_repo.specs.Edges.{Edge, Next, To, Handler, target, edges, next_edges, handler_of}
+use Rattle.hhbc_semantics.specs.Setting.{Setting}
 use Rattle.hhbc_semantics.specs.Form.{FitsOperands, FitsCode}
-use Rattle.hhbc_semantics.specs.Machine.{World, Frame, Turn, Goes, Calls, Returns, Raises, Ends, Fails, Sticks, with_cell, read_slot, name_or_none, perform, perform_code, turn_in}
+use Rattle.hhbc_semantics.specs.Frames.{World, Frame, Turn, Goes, Calls, Returns, Raises, Ends, Fails, Sticks}
+use Rattle.hhbc_semantics.specs.Machine.{perform_code, turn_in}
+use Rattle.hhbc_semantics.specs.Operands.{with_cell, read_slot, name_or_none}
+use Rattle.hhbc_semantics.specs.Rows.{perform}
 use Rattle.hhbc_semantics.specs.Steps.{handler_in}
 use Rattle.hhbc_repo.specs.Shapes.{Shape, agree, after, behind, live_next, hands_on, caught_shape, given, shapes}
 use Rattle.hhbc_semantics.specs.Soundness.{MayThrowAt, Led, GoesWith, Laws, IsRoundBy, At}
@@ -63,26 +67,26 @@ length_set [] i s = refl
 length_set (a ∷ ss) zero s = refl
 length_set (a ∷ ss) (suc i) s = ap suc (length_set ss i s)
 
-does_op : (count : ℕ) (op : Op) (is : List Imm) (b : Body) (fs : List Flavour) (f : Frame) (w : World) → FitsOperands count op is
-    → length f.locals ≡ count → AreOfFlavours f.stack fs → Does (op_pops op is) (op_pushes op is) (op_goes_on op) (op_throws op) fs f (perform op is b f w)
-does_op count ops.Null is b fs f w i l h = (refl, refl, (tt, h), refl, refl, refl)
-does_op count ops.True is b fs f w i l h = (refl, refl, (tt, h), refl, refl, refl)
-does_op count ops.False is b fs f w i l h = (refl, refl, (tt, h), refl, refl, refl)
-does_op count ops.Int is b fs f w i l h = (refl, refl, (tt, h), refl, refl, refl)
-does_op count ops.PopC is b fs f w i l h = does_cell [] true false f w f.stack fs _ h (λ x rest more k all. (refl, refl, k, refl, refl, refl))
-does_op count ops.SetL is b fs f w i l h =
+does_op : (S : Setting) (count : ℕ) (op : Op) (is : List Imm) (b : Body) (fs : List Flavour) (f : Frame) (w : World) → FitsOperands count op is
+    → length f.locals ≡ count → AreOfFlavours f.stack fs → Does (op_pops op is) (op_pushes op is) (op_goes_on op) (op_throws op) fs f (perform S op is b f w)
+does_op S count ops.Null is b fs f w i l h = (refl, refl, (tt, h), refl, refl, refl)
+does_op S count ops.True is b fs f w i l h = (refl, refl, (tt, h), refl, refl, refl)
+does_op S count ops.False is b fs f w i l h = (refl, refl, (tt, h), refl, refl, refl)
+does_op S count ops.Int is b fs f w i l h = (refl, refl, (tt, h), refl, refl, refl)
+does_op S count ops.PopC is b fs f w i l h = does_cell [] true false f w f.stack fs _ h (λ x rest more k all. (refl, refl, k, refl, refl, refl))
+does_op S count ops.SetL is b fs f w i l h =
     does_cell (C ∷ []) true false f w f.stack fs _ h
     (λ x rest more k all. (refl, refl, all, refl, length_set f.locals (local_of is) (slots.Cell x), refl))
-does_op count ops.CGetL (imms.Local n ∷ []) b fs f w i l h =
+does_op S count ops.CGetL (imms.Local n ∷ []) b fs f w i l h =
     does_local (C ∷ []) true fs f w f.locals n (name_or_none (slice_get b.locals n)) _ (omega (arith, i, l))
     (λ x. (refl, refl, (tt, h), refl, refl, refl))
-does_op count ops.RetC is b fs f w i l h = does_cell [] false false f w f.stack fs _ h (λ x rest more k all. tt)
-does_op count _ is b fs f w i l h = absurd i
+does_op S count ops.RetC is b fs f w i l h = does_cell [] false false f w f.stack fs _ h (λ x rest more k all. tt)
+does_op S count _ is b fs f w i l h = absurd i
 
-does_code : (count : ℕ) (c : Code) (b : Body) (fs : List Flavour) (f : Frame) (w : World) → FitsCode count c → length f.locals ≡ count
-    → AreOfFlavours f.stack fs → Does (pops c) (pushes c) (goes_on c) (throws c) fs f (perform_code (Some c) b f w)
-does_code count (kinds.Plain i) b fs f w fits l h = does_op count i.op i.imms b fs f w fits l h
-does_code count (kinds.Member m) b fs f w fits l h = absurd fits
+does_code : (S : Setting) (count : ℕ) (c : Code) (b : Body) (fs : List Flavour) (f : Frame) (w : World) → FitsCode count c → length f.locals ≡ count
+    → AreOfFlavours f.stack fs → Does (pops c) (pushes c) (goes_on c) (throws c) fs f (perform_code S (Some c) b f w)
+does_code S count (kinds.Plain i) b fs f w fits l h = does_op S count i.op i.imms b fs f w fits l h
+does_code S count (kinds.Member m) b fs f w fits l h = absurd fits
 
 -- each code fits, and each position passes
 pub record Keeps (r : Linked) : Type 0 where
@@ -90,9 +94,9 @@ pub record Keeps (r : Linked) : Type 0 where
   pub starts : (n : ℕ) (b : Body) → body_at r n ≡ Some b → 0 < length b.positions
   pub passes : (n : ℕ) (b : Body) → body_at r n ≡ Some b → (p : ℕ) → p < length b.positions → Passes b p
 
-module _ (r : Linked) (keeps : Keeps r) where
+module _ (S : Setting) (keeps : Keeps S.repo) where
   abbrev goes_with : Frame → Shape → World → Turn → Type 0
-  goes_with f s w t = GoesWith r (by_shapes r) (tt {0}) f s w t
+  goes_with f s w t = GoesWith S.repo (by_shapes S) (tt {0}) f s w t
 
   next_edge : (b : Body) (p : ℕ) (c : Code) → code_at b p ≡ Some c → goes_on c ≡ true → slice_get (edges b p) 0 ≡ Some (Next (suc p))
   next_edge b p c at on = rw (at, on) refl
@@ -103,8 +107,8 @@ module _ (r : Linked) (keeps : Keeps r) where
       let front : List Edge = next_edges (goes_on c) p ++ map (λ q. To q) (labels c) in
       (length front, rw (at, may, is) (slice_last front (Handler q)))
 
-  by_turn : (f : Frame) (s : Shape) (w : World) (b : Body) (c : Code) → body_at r f.body ≡ Some b → code_at b f.position ≡ Some c
-      → iter_use c ≡ None → IsOfShape r f s → (t : Turn) → Does (pops c) (pushes c) (goes_on c) (throws c) s.stack f t → goes_with f s w t
+  by_turn : (f : Frame) (s : Shape) (w : World) (b : Body) (c : Code) → body_at S.repo f.body ≡ Some b → code_at b f.position ≡ Some c
+      → iter_use c ≡ None → IsOfShape S.repo f s → (t : Turn) → Does (pops c) (pushes c) (goes_on c) (throws c) s.stack f t → goes_with f s w t
   by_turn f s w b c is at none h (Goes g v) k = record {
     fits = (
       behind c s,
@@ -118,7 +122,7 @@ module _ (r : Linked) (keeps : Keeps r) where
         shape = ap (λ o. hands_on o s (Next (suc f.position))) (sym at);
       },
       record {
-        locals = λ x e. k.4 ∙ h.locals x (subst (λ n. body_at r n ≡ Some x) k.0 e);
+        locals = λ x e. k.4 ∙ h.locals x (subst (λ n. body_at S.repo n ≡ Some x) k.0 e);
         stack = k.2;
         iters =
             subst (λ is. AreLive is (live_next (iter_use c) s.live)) (sym k.3)
@@ -127,51 +131,51 @@ module _ (r : Linked) (keeps : Keeps r) where
       k.0,
     );
     grows = tt;
-    takes = λ G t u. tt;
+    takes = λ G b t u. tt;
   }
   by_turn f s w b c is at none h (Calls g v) k = absurd k
-  by_turn f s w b c is at none h (Returns x v) k = record { fits = tt; grows = tt; takes = λ G t u. tt }
+  by_turn f s w b c is at none h (Returns x v) k = record { fits = tt; grows = tt; takes = λ G b t u. tt }
   by_turn f s w b c is at none h (Raises e v) k = record {
     fits = (tt, record { body = b; at = is; code = c; there = at; may = k });
     grows = tt;
-    takes = λ G t u. tt;
+    takes = λ G b t u. tt;
   }
-  by_turn f s w b c is at none h (Ends (Fails name) v) k = record { fits = tt; grows = tt; takes = λ G t u. tt }
+  by_turn f s w b c is at none h (Ends (Fails name) v) k = record { fits = tt; grows = tt; takes = λ G b t u. tt }
   by_turn f s w b c is at none h (Ends (Sticks why) v) k = record {
     fits = λ has.
         let x : b ≡ has.body = let e = sym is ∙ has.at in cc in
         let y : has.code ≡ c = let e = sym has.there ∙ subst (λ b. code_at b f.position ≡ Some c) x at in cc in
         k (subst (λ c. nat_le (length (pops c)) (length s.stack) ≡ true) y has.enough) (subst (λ c. agree (pops c) s.stack ≡ true) y has.agrees);
     grows = tt;
-    takes = λ G t u. tt;
+    takes = λ G b t u. tt;
   }
 
-  at_code : (f : Frame) (s : Shape) (w : World) (b : Body) → body_at r f.body ≡ Some b → (o : Option Code) → code_at b f.position ≡ o
-      → IsOfShape r f s → goes_with f s w (perform_code o b f w)
+  at_code : (f : Frame) (s : Shape) (w : World) (b : Body) → body_at S.repo f.body ≡ Some b → (o : Option Code) → code_at b f.position ≡ o
+      → IsOfShape S.repo f s → goes_with f s w (perform_code S o b f w)
   at_code f s w b is None at h = record {
     fits = λ has.
         let x : b ≡ has.body = let e = sym is ∙ has.at in cc in
         let e = sym (subst (λ b. code_at b f.position ≡ None) x at) ∙ has.there in absurd (cc);
     grows = tt;
-    takes = λ G t u. tt;
+    takes = λ G b t u. tt;
   }
   at_code f s w b is (Some c) at h =
       let fits = keeps.codes f.body b is f.position c at in
-      by_turn f s w b c is at (no_iter (length b.locals) c fits) h (perform_code (Some c) b f w)
-      (does_code (length b.locals) c b s.stack f w fits (h.locals b is) h.stack)
+      by_turn f s w b c is at (no_iter (length b.locals) c fits) h (perform_code S (Some c) b f w)
+      (does_code S (length b.locals) c b s.stack f w fits (h.locals b is) h.stack)
 
-  at_body : (f : Frame) (s : Shape) (w : World) (o : Option Body) → body_at r f.body ≡ o → IsOfShape r f s → goes_with f s w (turn_in o f w)
-  at_body f s w None is h = record { fits = λ has. let e = sym is ∙ has.at in absurd (cc); grows = tt; takes = λ G t u. tt }
+  at_body : (f : Frame) (s : Shape) (w : World) (o : Option Body) → body_at S.repo f.body ≡ o → IsOfShape S.repo f s → goes_with f s w (turn_in S o f w)
+  at_body f s w None is h = record { fits = λ has. let e = sym is ∙ has.at in absurd (cc); grows = tt; takes = λ G b t u. tt }
   at_body f s w (Some b) is h = at_code f s w b is (code_at b f.position) refl h
 
-  caught_led : (f : Frame) (s : Shape) (w : World) (e : Cell) (g : Frame) (may : MayThrowAt r f.body f.position) (o : Option ℕ)
-      → handler_of may.body f.position ≡ o → IsOfShape r f s
-      → option_map (λ q. record f { position = q; stack = slots.Cell e ∷ [] }) o ≡ Some g → Led r (by_shapes r) (tt {0}) f s g w
+  caught_led : (f : Frame) (s : Shape) (w : World) (e : Cell) (g : Frame) (may : MayThrowAt S.repo f.body f.position) (o : Option ℕ)
+      → handler_of may.body f.position ≡ o → IsOfShape S.repo f s
+      → option_map (λ q. record f { position = q; stack = slots.Cell e ∷ [] }) o ≡ Some g → Led S.repo (by_shapes S) (tt {0}) f s g w
   caught_led f s w e g may None at h is = absurd (cc)
   caught_led f s w e g may (Some q) at h is =
       let here : record f { position = q; stack = slots.Cell e ∷ [] } ≡ g = cc in
       let edge = handler_edge may.body f.position may.code q may.there may.may at in
-      subst (λ g. Led r (by_shapes r) (tt {0}) f s g w) here (
+      subst (λ g. Led S.repo (by_shapes S) (tt {0}) f s g w) here (
         caught_shape s,
         record {
           body = may.body;
@@ -186,12 +190,12 @@ module _ (r : Linked) (keeps : Keeps r) where
         refl,
       )
 
-  pub shape_laws : Laws r (by_shapes r)
+  pub shape_laws : Laws S.repo (by_shapes S)
   shape_laws = record {
     grows_itself = λ w. tt;
     holds_grows = λ f s v w g h. h;
-    holds_below = λ f s t w e h. subst (λ s. IsOfShape r f s) e h;
-    turns = λ F f s w shares h. at_body f s w (body_at r f.body) refl h;
+    holds_below = λ f s t w e h. subst (λ s. IsOfShape S.repo f s) e h;
+    turns = λ F f s w shares h. at_body f s w (body_at S.repo f.body) refl h;
     catches = λ F f s w e g h raised may is.
         caught_led f s w e g may (handler_of may.body f.position) refl h
         (subst (λ o. option_map (λ q. record f { position = q; stack = slots.Cell e ∷ [] }) (handler_in o f.position) ≡ Some g) may.at is);
@@ -199,43 +203,44 @@ module _ (r : Linked) (keeps : Keeps r) where
 
   -- the shapes of all positions of all bodies
   abbrev pub tables : List (List (Option Shape))
-  tables = map (λ (b : Body). map (λ s. Some s) (shapes b (length b.positions))) (bodies r)
+  tables = map (λ (b : Body). map (λ s. Some s) (shapes b (length b.positions))) (bodies S.repo)
 
   -- what a table has is the shape that is given
   pub record Stands (n p : ℕ) (s : Shape) : Type 0 where
     pub body : Body
-    pub at : body_at r n ≡ Some body
+    pub at : body_at S.repo n ≡ Some body
     pub inside : p < length body.positions
     pub given : s ≡ given body p
 
-  pub stands : (n p : ℕ) (s : Shape) → At r (by_shapes r) tables n p s → Stands n p s
+  pub stands : (n p : ℕ) (s : Shape) → At S.repo (by_shapes S) tables n p s → Stands n p s
   stands n p s at =
-      let b = from_map (λ (b : Body). map (λ s. Some s) (shapes b (length b.positions))) (bodies r) n at.0 at.1 in
+      let b = from_map (λ (b : Body). map (λ s. Some s) (shapes b (length b.positions))) (bodies S.repo) n at.0 at.1 in
       let x = from_map (λ s. Some s) (shapes b.0 (length b.0.positions)) p (Some s) (subst (λ T. slice_get T p ≡ Some (Some s)) (sym b.2) at.2) in
       let y : x.0 ≡ s = let e = x.2 in cc in
       let w = shape_at b.0 (length b.0.positions) p x.0 x.1 in
       record { body = b.0; at = b.1; inside = w.0; given = sym y ∙ w.1 }
 
-  at_given : (n p : ℕ) (b : Body) → body_at r n ≡ Some b → p < length b.positions → At r (by_shapes r) tables n p (given b p)
+  at_given : (n p : ℕ) (b : Body) → body_at S.repo n ≡ Some b → p < length b.positions → At S.repo (by_shapes S) tables n p (given b p)
   at_given n p b is l = (
     map (λ s. Some s) (shapes b (length b.positions)),
-    to_map (λ (b : Body). map (λ s. Some s) (shapes b (length b.positions))) (bodies r) n b is,
+    to_map (λ (b : Body). map (λ s. Some s) (shapes b (length b.positions))) (bodies S.repo) n b is,
     to_map (λ s. Some s) (shapes b (length b.positions)) p (given b p) (shape_there b (length b.positions) p l),
   )
 
-  handed_on : (n p : ℕ) (s : Shape) (q : ℕ) (t : Shape) → Stands n p s → HandsOn r n p s q t
-      → (u : Shape) × At r (by_shapes r) tables n q u × (t ≡ u)
+  handed_on : (n p : ℕ) (s : Shape) (q : ℕ) (t : Shape) → Stands n p s → HandsOn S.repo n p s q t
+      → (u : Shape) × At S.repo (by_shapes S) tables n q u × (t ≡ u)
   handed_on n p s q t here to =
       let same : to.body ≡ here.body = let e = sym to.at ∙ here.at in cc in
       let there = subst (λ b. slice_get (edges b p) to.place ≡ Some to.edge) same to.there in
       let pass = (keeps.passes n here.body here.at p here.inside).edge to.place to.edge there in (
         given here.body (target to.edge),
-        subst (λ q. At r (by_shapes r) tables n q (given here.body (target to.edge))) (sym to.leads) (at_given n (target to.edge) here.body here.at pass.inside),
+        subst (λ q. At S.repo (by_shapes S) tables n q (given here.body (target to.edge))) (sym to.leads) (at_given n (target to.edge) here.body here.at pass.inside),
         to.shape ∙ ap (λ b. after b p s to.edge) same ∙ ap (λ s. after here.body p s to.edge) here.given ∙ pass.same,
       )
 
-  pub shapes_solve : IsRoundBy r (by_shapes r) (tt {0}) tables (tt {0})
+  pub shapes_solve : IsRoundBy S.repo (by_shapes S) (tt {0}) tables (tt {0})
   shapes_solve = record {
+    begins = tt;
     solve = record {
       enters = λ n is. (
         given is.0 0,

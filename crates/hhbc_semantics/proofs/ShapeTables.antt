@@ -15,7 +15,7 @@ use Rattle.hhbc_ops.specs.declared.words.Flavour.{Flavour}
 use Rattle.hhbc_ops.specs.declared.words.Flavour.TheVariants.{C, U}
 use Rattle.hhbc_repo.specs.Edges.{Edge, target, edges, edges_of}
 use Rattle.hhbc_repo.specs.Shapes.{Shape, Check, AllPass, given, given_after, given_by, handed, or_unled, shapes, edge_to, after, hands_on, agree, same_live, reaches, pops_of, slots_read_of, iter_use_of, all_within, all_cells, iter_checks, edge_checks, all_edge_checks, last_checks, checks, first_fault, fault_at}
-use Rattle.hhbc_repo.proofs.Elements.{before_last, from_map, slice_last, to_map}
+use Rattle.hhbc_repo.proofs.Elements.{before_last, from_map, slice_last}
 use Rattle.hhbc_semantics.proofs.Walking.{shapes_length}
 
 -- an element of a list with one more behind it
@@ -146,17 +146,17 @@ same_code : (o : Option Position) → code_of (option_map bare_position o) ≡ c
 same_code None = refl
 same_code (Some q) = refl
 
-code_bare : (b : Body) (p : ℕ) → code_at (bare_body b) p ≡ code_at b p
+pub code_bare : (b : Body) (p : ℕ) → code_at (bare_body b) p ≡ code_at b p
 code_bare b p = ap code_of (slice_get-map bare_position b.positions p) ∙ same_code (slice_get b.positions p)
 
 edges_same : (b : Body) (p : ℕ) (o : Option Code) → edges_of o (bare_body b) p ≡ edges_of o b p
 edges_same b p None = refl
 edges_same b p (Some c) = refl
 
-edges_bare : (b : Body) (p : ℕ) → edges (bare_body b) p ≡ edges b p
+pub edges_bare : (b : Body) (p : ℕ) → edges (bare_body b) p ≡ edges b p
 edges_bare b p = edges_same b p (code_at (bare_body b) p) ∙ ap (λ o. edges_of o b p) (code_bare b p)
 
-after_bare : (b : Body) (p : ℕ) (s : Shape) (e : Edge) → after (bare_body b) p s e ≡ after b p s e
+pub after_bare : (b : Body) (p : ℕ) (s : Shape) (e : Edge) → after (bare_body b) p s e ≡ after b p s e
 after_bare b p s e = ap (λ o. hands_on o s e) (code_bare b p)
 
 handed_bare : (b : Body) (p : ℕ) (s : Shape) (e : Option Edge) (o : Option Shape) → handed (bare_body b) p s e o ≡ handed b p s e o
@@ -174,7 +174,7 @@ given_after_bare : (b : Body) (q : ℕ) (earlier : List Shape) → given_after (
 given_after_bare b zero earlier = refl
 given_after_bare b (suc q) earlier = ap (λ o. or_unled b (suc q) o) (given_by_bare b 0 earlier (suc q))
 
-shapes_bare : (b : Body) (n : ℕ) → shapes (bare_body b) n ≡ shapes b n
+pub shapes_bare : (b : Body) (n : ℕ) → shapes (bare_body b) n ≡ shapes b n
 shapes_bare b zero = refl
 shapes_bare b (suc n) =
     ap (λ x. shapes (bare_body b) n ++ x ∷ []) (given_after_bare b n (shapes (bare_body b) n))
@@ -183,7 +183,7 @@ shapes_bare b (suc n) =
 pub given_bare : (b : Body) (q : ℕ) → given (bare_body b) q ≡ given b q
 given_bare b q = given_after_bare b q (shapes (bare_body b) q) ∙ ap (λ xs. given_after b q xs) (shapes_bare b q)
 
-asserts_bare : (b : Body) (p : ℕ) → reaches (asserts_at (bare_body b) p) (length (given (bare_body b) p).stack) ≡ true
+pub asserts_bare : (b : Body) (p : ℕ) → reaches (asserts_at (bare_body b) p) (length (given (bare_body b) p).stack) ≡ true
 asserts_bare b p = ap (λ o. reaches (asserts_of o) (length (given (bare_body b) p).stack)) (slice_get-map bare_position b.positions p) ∙ none (slice_get b.positions p)
   where
     none : (o : Option Position) → reaches (asserts_of (option_map bare_position o)) (length (given (bare_body b) p).stack) ≡ true

@@ -6,6 +6,7 @@ use Rattle.hack_values.specs.declared.cell.Cell.{Cell}
 use Rattle.hhbc_repo.specs.declared.body.Body.{Body}
 use Rattle.hhbc_repo.specs.Linked.{Linked}
 use Rattle.hhbc_repo.specs.Bodies.{bodies, body_at}
+use Rattle.hhbc_semantics.specs.Setting.{Setting}
 use Rattle.hhbc_semantics.specs.Outcome.{WrongCount}
 use Rattle.hhbc_semantics.specs.Steps.{Running, Ended}
 use Rattle.hhbc_semantics.specs.Run.{entered, no_world, function_from, start_in, start}
@@ -32,18 +33,18 @@ function_at r name e is =
     let k : e.0 ≡ w.0 = w.1 ∙ omega arith in
     subst (λ n. slice_get (bodies r) n ≡ Some e.1) (sym k) (before_last r.functions _ w.0 e.1 w.2)
 
--- a run starts as an analysis wants, where no facts are false of the empty world and a frame that enters a body is as the entry says
-module _ (r : Linked) (A : Analysis) (empty : (G : A.Facts) → A.Shares G no_world)
-    (enters : (n : ℕ) (b : Body) (args : List Cell) → body_at r n ≡ Some b → length args ≡ b.params → A.Holds (entered n b args) (A.entry n) no_world) where
-  starts_counted : (e : ℕ × Body) (args : List Cell) → body_at r e.0 ≡ Some e.1 → (t : Bool) → (length args == e.1.params) ≡ t
-      → Starts r A (cond t (Running (entered e.0 e.1 args) [] no_world) (Ended WrongCount no_world))
+-- a run starts as an analysis wants, where all facts that begin are true of the empty world and a frame that enters a body is as the entry says
+module _ (S : Setting) (A : Analysis) (empty : (G : A.Facts) → A.Begins G → A.Shares G no_world)
+    (enters : (n : ℕ) (b : Body) (args : List Cell) → body_at S.repo n ≡ Some b → length args ≡ b.params → A.Holds (entered n b args) (A.entry n) no_world) where
+  starts_counted : (e : ℕ × Body) (args : List Cell) → body_at S.repo e.0 ≡ Some e.1 → (t : Bool) → (length args == e.1.params) ≡ t
+      → Starts S.repo A (cond t (Running (entered e.0 e.1 args) [] no_world) (Ended WrongCount no_world))
   starts_counted e args is true k =
       (refl, (e.1, is), refl, enters e.0 e.1 args is ((Decides-eqb (length args) e.1.params).0 k), empty)
   starts_counted e args is false k = (λ why i. absurd (cc), empty)
 
-  starts_in : (o : Option (ℕ × Body)) (args : List Cell) → ((e : ℕ × Body) → o ≡ Some e → body_at r e.0 ≡ Some e.1) → Starts r A (start_in o args)
+  starts_in : (o : Option (ℕ × Body)) (args : List Cell) → ((e : ℕ × Body) → o ≡ Some e → body_at S.repo e.0 ≡ Some e.1) → Starts S.repo A (start_in o args)
   starts_in None args h = (λ why i. absurd (cc), empty)
   starts_in (Some e) args h = starts_counted e args (h e refl) (length args == e.1.params) refl
 
-  pub starts : (entry : List ℕ) (args : List Cell) → Starts r A (start r entry args)
-  starts entry args = starts_in (function_from 0 r.functions entry) args (function_at r entry)
+  pub starts : (entry : List ℕ) (args : List Cell) → Starts S.repo A (start S entry args)
+  starts entry args = starts_in (function_from 0 S.repo.functions entry) args (function_at S.repo entry)

@@ -9,6 +9,7 @@ use Rattle.hhbc_repo.specs.declared.repo.Class.{Class}
 use Rattle.hhbc_repo.specs.Linked.{Linked}
 use Rattle.hhbc_repo.specs.Bare.{bare, bare_position, bare_body, bare_property, bare_class}
 use Rattle.hhbc_repo.specs.Codes.{pops, pushes}
+use Rattle.hhbc_semantics.specs.Setting.{Setting, bare_setting}
 use Rattle.hhbc_semantics.specs.Form.{FitsPosition, FitPositions, FitsClaimed, FitClaimed, IsFirstBody, IsFirstForm, IsSecondBody, IsSecondForm}
 use Rattle.hhbc_semantics.specs.Run.{start, start_in, function_from, advance, after, result_of}
 use Rattle.hhbc_repo.specs.Shapes.{reaches}
@@ -43,19 +44,23 @@ start_from n [] entry args = refl
 start_from n (b ∷ bs) entry args =
     begins (pointwise nat_eq b.name entry) n b (function_from (suc n) bs entry) (function_from (suc n) (map bare_body bs) entry) args (start_from (suc n) bs entry args)
 
-pub same_start : (r : Linked) (entry : List ℕ) (args : List Cell) → start r entry args ≡ start (bare r) entry args
-same_start r entry args = start_from 0 r.functions entry args
+pub bare_setting_again : (S : Setting) → bare_setting (bare_setting S) ≡ bare_setting S
+bare_setting_again S = ap (λ r. record S { repo = r }) (bare_again S.repo)
 
-same_turn : (r : Linked) (c : Config) → advance r false c ≡ advance (bare r) false c
-same_turn r (Running f fs w) = ap (λ (x : Linked). next x (Running f fs w)) (sym (bare_again r))
-same_turn r (Ended o w) = refl
+pub same_start : (S : Setting) (entry : List ℕ) (args : List Cell) → start S entry args ≡ start (bare_setting S) entry args
+same_start S entry args = start_from 0 S.repo.functions entry args
 
-same_turns : (r : Linked) (c d : Config) → c ≡ d → (n : ℕ) → after r false c n ≡ after (bare r) false d n
-same_turns r c d e zero = e
-same_turns r c d e (suc n) = ap (λ (x : Config). advance r false x) (same_turns r c d e n) ∙ same_turn r (after (bare r) false d n)
+same_turn : (S : Setting) (c : Config) → advance S false c ≡ advance (bare_setting S) false c
+same_turn S (Running f fs w) = ap (λ (x : Setting). next x (Running f fs w)) (sym (bare_setting_again S))
+same_turn S (Ended o w) = refl
+
+same_turns : (S : Setting) (c d : Config) → c ≡ d → (n : ℕ) → after S false c n ≡ after (bare_setting S) false d n
+same_turns S c d e zero = e
+same_turns S c d e (suc n) = ap (λ (x : Config). advance S false x) (same_turns S c d e n) ∙ same_turn S (after (bare_setting S) false d n)
 
 pub runs_as_bare : RunsAsBare
-runs_as_bare r entry args n = ap (λ (c : Config). result_of c) (same_turns r (start r entry args) (start (bare r) entry args) (same_start r entry args) n)
+runs_as_bare S entry args n =
+    ap (λ (c : Config). result_of c) (same_turns S (start S entry args) (start (bare_setting S) entry args) (same_start S entry args) n)
 
 -- the form of what is left
 bare_one : (count : ℕ) (p : Position) → FitsClaimed count p → FitsPosition count (bare_position p)

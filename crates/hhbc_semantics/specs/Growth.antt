@@ -1,7 +1,7 @@
 -- What stays as a run goes on.
 use Rattle.std.specs.Prelude.{◌≡◌, ℕ, Some}
 use Rattle.type_lattice.specs.Member.{Heap, class_at}
-use Rattle.hhbc_semantics.specs.Machine.{World}
+use Rattle.hhbc_semantics.specs.Frames.{World}
 
 -- the objects of the first heap are in the second, and are of the same classes
 abbrev pub HeapGrows : Heap → Heap → Type 0

@@ -1,9 +1,7 @@
 -- Runs with a bound of steps. They go over the repository without its assertions, which may be tested before each step.
-use Rattle.std.specs.Prelude.{ℕ, zero, suc, ◌-◌, ◌==◌, nat_eq, Bool, true, false, List, [], ◌∷◌, ◌++◌, map, Option, Some, None, slice_get, length, replicate, if◌then◌else◌}
-use Rattle.std.specs.Cmp.Lexicographic.{pointwise}
+use Rattle.std.specs.Prelude.{ℕ, zero, suc, ◌==◌, Bool, true, false, List, [], ◌∷◌, Option, Some, None, slice_get, length, if◌then◌else◌}
 use Rattle.hack_values.specs.declared.cell.Cell.{Cell}
 use Rattle.hack_values.specs.declared.cell.Slot.{Slot}
-use Rattle.hack_values.specs.declared.cell.Slot.TheVariants as slots
 use Rattle.type_lattice.specs.declared.types.HType.{HType}
 use Rattle.type_lattice.specs.Classes.{Tree}
 use Rattle.type_lattice.specs.Member.{Heap, is_member}
@@ -12,9 +10,10 @@ use Rattle.hhbc_repo.specs.declared.body.Assert.{Assert}
 use Rattle.hhbc_repo.specs.declared.body.Assert.TheVariants as asserts
 use Rattle.hhbc_repo.specs.Linked.{Linked}
 use Rattle.hhbc_repo.specs.Bodies.{tree_of, body_at, asserts_at}
-use Rattle.hhbc_repo.specs.Bare.{bare}
+use Rattle.hhbc_semantics.specs.Setting.{Setting, bare_setting}
 use Rattle.hhbc_semantics.specs.Outcome.{Outcome, AssertFalse, Steps, Stuck, UnknownEntry, WrongCount, Underflow}
-use Rattle.hhbc_semantics.specs.Machine.{World, Frame}
+use Rattle.hhbc_semantics.specs.Frames.{World, Frame}
+pub use Rattle.hhbc_semantics.specs.Entering.{function_from, entered}
 use Rattle.hhbc_semantics.specs.Steps.{Config, Running, Ended, place_of, next}
 
 -- whether the slot is of the type, where there is a slot
@@ -50,46 +49,30 @@ tested (Some false) f w step = Ended (AssertFalse (place_of f)) w
 tested (Some true) f w step = step
 
 -- one turn: the assertions of the position, if they are tested, and then one step
-abbrev pub advance : Linked → Bool → Config → Config
-advance r true (Running f fs w) =
-    tested (test (tree_of r) w.heap f (asserts_of r f)) f w (next (bare r) (Running f fs w))
-advance r false (Running f fs w) = next (bare r) (Running f fs w)
-advance r asserted (Ended o w) = Ended o w
+abbrev pub advance : Setting → Bool → Config → Config
+advance S true (Running f fs w) =
+    tested (test (tree_of S.repo) w.heap f (asserts_of S.repo f)) f w (next (bare_setting S) (Running f fs w))
+advance S false (Running f fs w) = next (bare_setting S) (Running f fs w)
+advance S asserted (Ended o w) = Ended o w
 
 -- after so many turns
-abbrev pub after : Linked → Bool → Config → ℕ → Config
-after r asserted c zero = c
-after r asserted c (suc n) = advance r asserted (after r asserted c n)
-
--- the first function of the name, from this number on
-abbrev pub function_from : ℕ → List Body → List ℕ → Option (ℕ × Body)
-function_from n [] name = None
-function_from n (b ∷ bs) name = if pointwise nat_eq b.name name then Some (n, b) else function_from (suc n) bs name
+abbrev pub after : Setting → Bool → Config → ℕ → Config
+after S asserted c zero = c
+after S asserted c (suc n) = advance S asserted (after S asserted c n)
 
 abbrev pub no_world : World
 no_world = record { heap = []; output = [] }
-
--- a frame that enters a body: parameters set, other locals Uninit, no iterator live
-abbrev pub entered : ℕ → Body → List Cell → Frame
-entered n b args = record {
-  body = n;
-  position = 0;
-  locals = map (λ c. slots.Cell c) args ++ replicate (length b.locals - b.params) slots.Uninit;
-  stack = [];
-  iters = replicate b.iters None;
-  this = None;
-}
 
 abbrev pub start_in : Option (ℕ × Body) → List Cell → Config
 start_in None args = Ended UnknownEntry no_world
 start_in (Some e) args = if length args == e.1.params then Running (entered e.0 e.1 args) [] no_world else Ended WrongCount no_world
 
-abbrev pub start : Linked → List ℕ → List Cell → Config
-start r entry args = start_in (function_from 0 r.functions entry) args
+abbrev pub start : Setting → List ℕ → List Cell → Config
+start S entry args = start_in (function_from 0 S.repo.functions entry) args
 
 -- the state of a run of this entry after so many turns
-abbrev pub state_after : Linked → List ℕ → List Cell → Bool → ℕ → Config
-state_after r entry args asserted n = after r asserted (start r entry args) n
+abbrev pub state_after : Setting → List ℕ → List Cell → Bool → ℕ → Config
+state_after S entry args asserted n = after S asserted (start S entry args) n
 
 -- how a run ends, and what it wrote
 pub record Result : Type 0 where
@@ -101,5 +84,5 @@ result_of (Running f fs w) = record { outcome = Steps; output = w.output }
 result_of (Ended o w) = record { outcome = o; output = w.output }
 
 -- a run of the function of this name, of at most n steps
-abbrev pub run : Linked → List ℕ → List Cell → ℕ → Bool → Result
-run r entry args n asserted = result_of (state_after r entry args asserted n)
+abbrev pub run : Setting → List ℕ → List Cell → ℕ → Bool → Result
+run S entry args n asserted = result_of (state_after S entry args asserted n)

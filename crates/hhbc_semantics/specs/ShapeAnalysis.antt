@@ -13,8 +13,10 @@ use Rattle.hhbc_ops.specs.declared.words.Flavour.{Flavour}
 use Rattle.hhbc_ops.specs.declared.words.Flavour.TheVariants.{C, U}
 use Rattle.hhbc_repo.specs.Codes.{pops, slots_read, iter_use}
 use Rattle.hhbc_repo.specs.Edges.{Edge, target, edges}
+use Rattle.hhbc_semantics.specs.Setting.{Setting}
 use Rattle.hhbc_semantics.specs.Form.{FitsCode}
-use Rattle.hhbc_semantics.specs.Machine.{Frame, turn}
+use Rattle.hhbc_semantics.specs.Frames.{Frame}
+use Rattle.hhbc_semantics.specs.Machine.{turn}
 use Rattle.hhbc_repo.specs.Shapes.{Shape, AllPass, empty_shape, after, agree, all_within, all_cells, iter_checks, Types}
 use Rattle.hhbc_semantics.specs.Soundness.{Analysis, MayThrowAt}
 use Rattle.hhbc_semantics.specs.Truth.{IsNeverStuck}
@@ -75,21 +77,23 @@ entry_shape None = record { stack = []; live = [] }
 entry_shape (Some b) = empty_shape b
 
 -- frames have shapes, which edges hand on; a turn gets stuck only where the shape lacks slots
-abbrev pub by_shapes : Linked → Analysis
-by_shapes r = record {
-  turn = λ f w. turn r f w;
+abbrev pub by_shapes : Setting → Analysis
+by_shapes S = record {
+  turn = λ f w. turn S f w;
   State = Shape;
   Facts = Unit {0};
   StateLe = λ s t. s ≡ t;
+  Begins = λ F. Unit {0};
   Grows = λ v w. Unit {0};
-  Holds = λ f s w. IsOfShape r f s;
+  Holds = λ f s w. IsOfShape S.repo f s;
   Shares = λ F w. Unit {0};
   MayReturn = λ F n c w. Unit {0};
   IsRaised = λ c w. Unit {0};
-  MayThrow = λ n p. MayThrowAt r n p;
-  MayStick = λ n p s why. HasSlots r n p s → ⊥;
-  entry = λ n. entry_shape (body_at r n);
-  Flows = λ F n p s q t. HandsOn r n p s q t;
+  MayThrow = λ n p. MayThrowAt S.repo n p;
+  MayStick = λ n p s why. HasSlots S.repo n p s → ⊥;
+  entry = λ n. entry_shape (body_at S.repo n);
+  Flows = λ F n p s q t. HandsOn S.repo n p s q t;
+  MayCall = λ F n p s m. Unit {0};
   Gives = λ F n p s c w. Unit {0};
   Takes = λ F n p s G. Unit {0};
 }
@@ -108,4 +112,4 @@ pub record HasLocalCodes (r : Linked) : Type 0 where
 
 -- no run of a repository of such codes that keeps to its shapes is stuck, whether its assertions are tested or not
 abbrev pub LocalCodesNeverStick : Type 0
-LocalCodesNeverStick = (r : Linked) → HasLocalCodes r → Types r → IsNeverStuck r
+LocalCodesNeverStick = (S : Setting) → HasLocalCodes S.repo → Types S.repo → IsNeverStuck S

@@ -11,8 +11,10 @@ use Rattle.hhbc_repo.specs.Linked.{Linked}
 use Rattle.hhbc_repo.specs.Bodies.{body_at, code_at}
 use Rattle.hhbc_repo.specs.Codes.{pops}
 use Rattle.hhbc_repo.specs.Edges.{handler_of}
+use Rattle.hhbc_semantics.specs.Setting.{Setting}
 use Rattle.hhbc_semantics.specs.Outcome.{Place, Outcome, Returned, Uncaught, Fatal, Stuck, Frames}
-use Rattle.hhbc_semantics.specs.Machine.{World, Frame, Turn, Goes, Calls, Returns, Raises, Ends, Fails, Sticks, ahead, turn}
+use Rattle.hhbc_semantics.specs.Frames.{World, Frame, Turn, Goes, Calls, Returns, Raises, Ends, Fails, Sticks, ahead}
+use Rattle.hhbc_semantics.specs.Machine.{turn}
 
 -- the topmost frame, the frames below it, the nearest first, and what they share; or how the run ended
 pub data Config : Type 0 where
@@ -95,5 +97,5 @@ steps_by turns r c zero = c
 steps_by turns r c (suc n) = next_by turns r (steps_by turns r c n)
 
 -- one step
-abbrev pub next : Linked → Config → Config
-next r c = next_by (turn r) r c
+abbrev pub next : Setting → Config → Config
+next S c = next_by (turn S) S.repo c

@@ -1,5 +1,6 @@
 //! Laws of the definitions, each the contract of a function that does nothing.
 
+ghost use Rattle.hhbc_semantics.specs.Accepted.{AcceptedHasOperands, BareIsAccepted};
 ghost use Rattle.hhbc_semantics.specs.Truth.{FirstFormNeverSticks, SecondFormNeverSticks, RunsAsBare, BareIsFirstForm};
 ghost use Rattle.hhbc_semantics.specs.ShapeAnalysis.{LocalCodesNeverStick};
 ghost use Rattle.hhbc_semantics.specs.Walks.{TypesWhereItWalks, TypesWhereAssertedWalks};
@@ -44,4 +45,16 @@ pub fn runs_as_bare()
 /// keeps to its shapes where the whole repository does.
 pub fn bare_is_first_form()
     ensures { BareIsFirstForm }
+{}
+
+/// What is left of a repository that some text spells and that keeps to its shapes, without its
+/// claims, is one too.
+pub fn bare_is_accepted()
+    ensures { BareIsAccepted }
+{}
+
+/// Each code of a repository that the program takes has its operands, within what its body and the
+/// repository have; its bodies have their parameters among their locals.
+pub fn accepted_has_operands()
+    ensures { AcceptedHasOperands }
 {}
