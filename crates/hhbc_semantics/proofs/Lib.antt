@@ -1,10 +1,12 @@
+mod SampleExamples
 pub mod FirstForm
 pub mod Growing
 pub mod LocalCodes
 pub mod OnlyLocal
-mod SampleExamples
 pub mod SampleTrue
 pub mod ShapeLaws
+pub mod ShapeOperands
+pub mod ShapeSimple
 pub mod ShapeTables
 pub mod Starting
 pub mod StaysTrue
