@@ -4,6 +4,8 @@ pub mod Growing
 pub mod LocalCodes
 pub mod OnlyLocal
 pub mod SampleTrue
+pub mod ShapeCalls
+pub mod ShapeEdges
 pub mod ShapeLaws
 pub mod ShapeOperands
 pub mod ShapeSimple

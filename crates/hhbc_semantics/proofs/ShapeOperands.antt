@@ -13,6 +13,7 @@ use Rattle.hhbc_repo.specs.declared.body.Body.{Body}
 use Rattle.hhbc_repo.specs.Linked.{Linked}
 use Rattle.hhbc_repo.specs.Codes.{throws, goes_on, iter_use, labels, some_cells}
 use Rattle.hhbc_repo.specs.Shapes.{agree, live_next, live_to}
+use Rattle.hhbc_semantics.specs.Outcome.{FatalName}
 use Rattle.hhbc_semantics.specs.Frames.{World, Frame, Turn, Goes, Calls, Returns, Raises, Ends, Fails, Sticks, ahead}
 use Rattle.hhbc_semantics.specs.Growth.{WorldGrows}
 use Rattle.hhbc_semantics.specs.Exceptions.{raises}
@@ -54,7 +55,7 @@ module _ (r : Linked) (c : Code) (live : List Bool) (f : Frame) where
   pub record Quiet (left : List Flavour) (w : World) (t : Turn) : Type 0 where
     pub plain : Plain left w t
 
-  plain_does : (left : List Flavour) (act : World → Turn) (w : World) (t : Turn) → Plain left w t → Does r c live left f act w t
+  pub plain_does : (left : List Flavour) (act : World → Turn) (w : World) (t : Turn) → Plain left w t → Does r c live left f act w t
   plain_does left act w (Goes g v) h = h
   plain_does left act w (Calls g v) h = absurd h
   plain_does left act w (Returns x v) h = h
@@ -68,6 +69,9 @@ module _ (r : Linked) (c : Code) (live : List Bool) (f : Frame) where
   -- a raised exception is new in the heap
   pub quiet_raises : (left : List Flavour) (class : ℕ) (message : List ℕ) (w : World) → throws c ≡ true → Quiet left w (raises class message w)
   quiet_raises left class message w may = record { plain = (may, append_grows w.heap _) }
+
+  pub quiet_fails : (left : List Flavour) (name : FatalName) (w : World) → Quiet left w (Ends (Fails name) w)
+  quiet_fails left name w = record { plain = λ n k h. h }
 
   -- a code that goes on, and has no iterator
   pub record IsIdle : Type 0 where

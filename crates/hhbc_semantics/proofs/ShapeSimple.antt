@@ -1,5 +1,5 @@
 -- Shapes behind the codes of constants, locals, operators, objects and containers.
-use Rattle.std.proofs.Common.{◌≡◌, ℕ, ◌<◌, refl, Bool, true, Option, Some, None, List, [], ◌∷◌, ◌++◌, drop, length, Err, ℤ}
+use Rattle.std.proofs.Common.{◌≡◌, ℕ, ◌<◌, refl, Bool, true, nat_lt, Option, Some, None, List, [], ◌∷◌, ◌++◌, drop, length, Err, ℤ}
 use Rattle.hack_values.specs.declared.cell.Cell.{Cell}
 use Rattle.hack_values.specs.declared.cell.Cell.TheVariants as cells
 use Rattle.hack_values.specs.declared.cell.Slot.{Slot}
@@ -20,6 +20,11 @@ use Rattle.hhbc_repo.specs.declared.code.Code.{Code}
 use Rattle.hhbc_repo.specs.declared.body.Body.{Body}
 use Rattle.hhbc_repo.specs.Linked.{Linked}
 use Rattle.hhbc_repo.specs.Codes.{throws, some_cells}
+use Rattle.hack_values.specs.Val.{weight, depth}
+use Rattle.hack_values.specs.View.{val_of, vals_of}
+use Rattle.hack_values.specs.Keys.{keys_put, put_entry, with_key}
+use Rattle.hack_values.specs.Limits.{max_weight, max_depth}
+use Rattle.hhbc_semantics.specs.Outcome.{Size, Depth}
 use Rattle.hhbc_semantics.specs.Setting.{Setting}
 use Rattle.hhbc_semantics.specs.Frames.{World, Frame, Turn, Goes, ahead, push, set_local}
 use Rattle.hhbc_semantics.specs.Operands.{with_cell, with_uninit, or_null}
@@ -31,7 +36,7 @@ use Rattle.hhbc_semantics.specs.Verification.{is_of_kind, test_kind, test_local_
 use Rattle.hhbc_semantics.specs.ShapeAnalysis.{AreOfFlavours}
 use Rattle.hhbc_semantics.specs.ShapeRows.{Fits}
 use Rattle.hhbc_semantics.proofs.Growing.{append_grows}
-use Rattle.hhbc_semantics.proofs.ShapeOperands.{HasOnTop, length_set, IsIdle, Quiet, fit_quiet, quiet_raises, quiet_on, quiet_next, fit_next, quiet_if, quiet_answer, quiet_this, fit_cell, fit_cells, fit_uninit, fit_local, fit_slot}
+use Rattle.hhbc_semantics.proofs.ShapeOperands.{HasOnTop, length_set, IsIdle, Quiet, fit_quiet, quiet_raises, quiet_fails, quiet_on, quiet_next, fit_next, quiet_if, quiet_answer, quiet_this, fit_cell, fit_cells, fit_uninit, fit_local, fit_slot}
 
 module _ (r : Linked) (c : Code) (live : List Bool) (f : Frame) (fs : List Flavour) (s : AreOfFlavours f.stack fs) (i : IsIdle r c live f) where
   abbrev fits : List Flavour → (World → Turn) → Type 0
@@ -117,7 +122,7 @@ module _ (r : Linked) (c : Code) (live : List Bool) (f : Frame) (fs : List Flavo
   fit_get_below l b inside may h =
       fit_local r c live f (C ∷ C ∷ drop 1 fs) b l _ inside may
       (λ x. fit_cell r c live f (C ∷ C ∷ []) [] fs f.stack _ s h
-          (λ top rest more t m all. fit_next r c live f i (C ∷ C ∷ more) (slots.Cell top ∷ slots.Cell x ∷ rest) (tt, tt, t)))
+          (λ top rest more t m all. fit_next r c live f i (C ∷ C ∷ more) (slots.Cell top ∷ slots.Cell x ∷ rest) (tt, (tt, t))))
 
   pub fit_push_local : (l : ℕ) (b : Body) → l < length f.locals → throws c ≡ true → fits (C ∷ fs) (λ w. push_local l b f w)
   fit_push_local l b inside may =
@@ -154,7 +159,7 @@ module _ (r : Linked) (c : Code) (live : List Bool) (f : Frame) (fs : List Flavo
       → quiet (C ∷ left) w (print_text o f rest w)
   quiet_print None left rest w may t = quiet_raises r c live f (C ∷ left) _ _ w may
   quiet_print (Some text) left rest w may t =
-      quiet_if r c live f (C ∷ left) w _ _ _ (record { plain = λ n k h. h })
+      quiet_if r c live f (C ∷ left) w _ _ _ (quiet_fails r c live f (C ∷ left) _ w)
       (quiet_on r c live f i (C ∷ left) f _ w _ (λ n k h. h) refl refl refl refl (tt, t))
 
   pub fit_print : throws c ≡ true → HasOnTop (C ∷ []) fs → fits (C ∷ drop 1 fs) (λ w. print f w)
@@ -198,8 +203,9 @@ module _ (r : Linked) (c : Code) (live : List Bool) (f : Frame) (fs : List Flavo
   -- containers
   quiet_made : (x : Cell) (left : List Flavour) (rest : List Slot) (w : World) → AreOfFlavours rest left → quiet (C ∷ left) w (made x f rest w)
   quiet_made x left rest w t =
-      quiet_if r c live f (C ∷ left) w _ _ _ (record { plain = λ n k h. h })
-      (quiet_if r c live f (C ∷ left) w _ _ _ (record { plain = λ n k h. h }) (quiet_next r c live f i (C ∷ left) (slots.Cell x ∷ rest) w (tt, t)))
+      quiet_if r c live f (C ∷ left) w (nat_lt max_weight (weight (val_of x))) _ _ (quiet_fails r c live f (C ∷ left) Size w)
+      (quiet_if r c live f (C ∷ left) w (nat_lt max_depth (depth (val_of x))) _ _ (quiet_fails r c live f (C ∷ left) Depth w)
+      (quiet_next r c live f i (C ∷ left) (slots.Cell x ∷ rest) w (tt, t)))
 
   quiet_key : {X : Type 0} (left : List Flavour) (w : World) (o : Option X) (go : X → Turn) → throws c ≡ true → ((x : X) → quiet left w (go x))
       → quiet left w (with_key_or o w go)
@@ -209,18 +215,18 @@ module _ (r : Linked) (c : Code) (live : List Bool) (f : Frame) (fs : List Flavo
   pub fit_new_vec : (n : ℕ) → HasOnTop (some_cells n ++ []) fs → fits (C ∷ drop (length (some_cells n ++ [])) fs) (λ w. new_vec n f w)
   fit_new_vec n h =
       fit_cells r c live f n [] (C ∷ []) [] fs f.stack _ s h
-      (λ xs rest more t m. fit_quiet r c live f (C ∷ more) _ (λ w. quiet_made _ more rest w t))
+      (λ xs rest more t m. fit_quiet r c live f (C ∷ more) _ (λ w. quiet_made (cells.Vec (vals_of xs)) more rest w t))
 
   pub fit_new_keyset : (n : ℕ) → throws c ≡ true → HasOnTop (some_cells n ++ []) fs
       → fits (C ∷ drop (length (some_cells n ++ [])) fs) (λ w. new_keyset n f w)
   fit_new_keyset n may h =
       fit_cells r c live f n [] (C ∷ []) [] fs f.stack _ s h
       (λ xs rest more t m. fit_quiet r c live f (C ∷ more) _
-          (λ w. quiet_key (C ∷ more) w (keys_of xs) _ may (λ ks. quiet_made _ more rest w t)))
+          (λ w. quiet_key (C ∷ more) w (keys_of xs) _ may (λ ks. quiet_made (cells.Keyset (keys_put ks)) more rest w t)))
 
   quiet_entry : (x key value : Cell) (left : List Flavour) (rest : List Slot) (w : World) → throws c ≡ true → AreOfFlavours rest left
       → quiet (C ∷ left) w (add_entry x key value f rest w)
-  quiet_entry (cells.Dict es) key value left rest w may t = quiet_key (C ∷ left) w (key_of key) _ may (λ k. quiet_made _ left rest w t)
+  quiet_entry (cells.Dict es) key value left rest w may t = quiet_key (C ∷ left) w (key_of key) _ may (λ k. quiet_made (cells.Dict (put_entry es k (val_of value))) left rest w t)
   quiet_entry _ key value left rest w may t = quiet_raises r c live f (C ∷ left) _ _ w may
 
   pub fit_add_element : throws c ≡ true → HasOnTop (C ∷ C ∷ C ∷ []) fs → fits (C ∷ drop 3 fs) (λ w. add_element f w)
@@ -232,8 +238,8 @@ module _ (r : Linked) (c : Code) (live : List Bool) (f : Frame) (fs : List Flavo
 
   quiet_append : (x value : Cell) (left : List Flavour) (rest : List Slot) (w : World) → throws c ≡ true → AreOfFlavours rest left
       → quiet (C ∷ left) w (append_to x value f rest w)
-  quiet_append (cells.Vec vs) value left rest w may t = quiet_made _ left rest w t
-  quiet_append (cells.Keyset ks) value left rest w may t = quiet_key (C ∷ left) w (key_of value) _ may (λ k. quiet_made _ left rest w t)
+  quiet_append (cells.Vec vs) value left rest w may t = quiet_made (cells.Vec (vs ++ val_of value ∷ [])) left rest w t
+  quiet_append (cells.Keyset ks) value left rest w may t = quiet_key (C ∷ left) w (key_of value) _ may (λ k. quiet_made (cells.Keyset (with_key ks k)) left rest w t)
   quiet_append (cells.Dict es) value left rest w may t = quiet_raises r c live f (C ∷ left) _ _ w may
   quiet_append _ value left rest w may t = quiet_raises r c live f (C ∷ left) _ _ w may
 
