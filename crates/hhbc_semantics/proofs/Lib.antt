@@ -5,6 +5,7 @@ pub mod LocalCodes
 pub mod OnlyLocal
 pub mod SampleTrue
 pub mod ShapeCalls
+pub mod ShapeCodes
 pub mod ShapeEdges
 pub mod ShapeLaws
 pub mod ShapeOperands

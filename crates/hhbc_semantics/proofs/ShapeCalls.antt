@@ -17,13 +17,14 @@ use Rattle.hhbc_repo.specs.LookUps.{method_of}
 use Rattle.hhbc_repo.specs.Codes.{some_cells, pushes, iter_use, goes_on, throws}
 use Rattle.hhbc_semantics.specs.Setting.{Setting, NativeRow}
 use Rattle.hhbc_semantics.specs.Outcome.{Undefined}
-use Rattle.hhbc_semantics.specs.Frames.{World, Frame, Turn, Calls}
+use Rattle.hhbc_semantics.specs.Frames.{World, Frame, Turn, Goes, Calls, ahead}
 use Rattle.hhbc_semantics.specs.Growth.{WorldGrows}
 use Rattle.hhbc_semantics.specs.Entering.{function_from, entered, entered_on}
 use Rattle.hhbc_semantics.specs.CallTurns.{no_method, native_named, takes, answered, call_native, call_function, function_call, numbered, body_of_method, method_in, call_static, static_call, class_named, object_number, call_on, method_call, constructor, construct, constructor_call}
 use Rattle.hhbc_semantics.specs.Soundness.{CallsBody}
 use Rattle.hhbc_semantics.specs.ShapeAnalysis.{AreOfFlavours}
 use Rattle.hhbc_semantics.specs.ShapeRows.{Does, Fits, IsEntered}
+use Rattle.hhbc_semantics.proofs.Growing.{append_grows}
 use Rattle.hhbc_semantics.proofs.ShapeOperands.{HasOnTop, IsIdle, Quiet, plain_does, fit_quiet, quiet_raises, quiet_fails, quiet_next, quiet_if, fit_cell, fit_cells, fit_uninit}
 
 -- a body of the repository by its number, with its parameters among its locals
@@ -148,6 +149,9 @@ module _ (r : Linked) (c : Code) (live : List Bool) (f : Frame) (fs : List Flavo
           (λ rest2 more2 u o. fit_uninit r c live f (C ∷ []) [] more2 rest2 _ u o
               (λ below left v p. fit_static (method_in S.repo (Some class) name) name args (C ∷ left) known)))
 
+  refused : (left : List Flavour) (act : World → Turn) (w : World) (name : List ℕ) → Does r c live left f act w (no_method name w)
+  refused left act w name = (call.may, append_grows w.heap _)
+
   -- methods of an object
   method_does : (S : Setting) (x : Cell) (name : List ℕ) (args : List Cell) (left : List Flavour) (act : World → Turn) (w : World) (o : Option ℕ)
       (e : Option (ℕ × Body)) (t : Bool)
@@ -156,11 +160,11 @@ module _ (r : Linked) (c : Code) (live : List Bool) (f : Frame) (fs : List Flavo
       → ((n : ℕ) (b : Body) → e ≡ Some (n, b) → (length args == b.params) ≡ t) → Does r c live left f act w (act w)
   method_does S x name args left act w o None t is class found known count =
       let e = is w ∙ ap (λ o. call_on (object_number x) (method_in S.repo o name) name args w) class ∙ ap (λ m. call_on (object_number x) m name args w) found in
-      subst (λ t. Does r c live left f act w t) (sym e) (plain_does r c live f left act w _ (quiet_raises r c live f left _ _ w call.may).plain)
+      subst (λ t. Does r c live left f act w t) (sym e) (refused left act w name)
   method_does S x name args left act w o (Some m) false is class found known count =
       let e = is w ∙ ap (λ o. call_on (object_number x) (method_in S.repo o name) name args w) class ∙ ap (λ m. call_on (object_number x) m name args w) found
       ∙ ap (λ t. if t then Calls (entered_on (object_number x) m.0 m.1 args) w else no_method name w) (count m.0 m.1 refl) in
-      subst (λ t. Does r c live left f act w t) (sym e) (plain_does r c live f left act w _ (quiet_raises r c live f left _ _ w call.may).plain)
+      subst (λ t. Does r c live left f act w t) (sym e) (refused left act w name)
   method_does S x name args left act w None (Some m) true is class found known count = absurd (cc)
   method_does S x name args left act w (Some k) (Some m) true is class found known count =
       calls left act w (entered_on (object_number x) m.0 m.1 args) (enters_on r (object_number x) m.0 m.1 args (known m.0 m.1 refl) (count m.0 m.1 refl))
@@ -201,24 +205,24 @@ module _ (r : Linked) (c : Code) (live : List Bool) (f : Frame) (fs : List Flavo
   made_or_called S x args left below w None None t class found known count h act is =
       let e = is w ∙ ap (λ o. construct o (object_number x) (method_in S.repo o constructor) args f below w) class in
       subst (λ t. Does r c live (C ∷ left) f act w t) (sym e)
-      (plain_does r c live f (C ∷ left) act w _ (quiet_raises r c live f (C ∷ left) _ _ w call.may).plain)
+      (refused (C ∷ left) act w constructor)
   made_or_called S x args left below w None (Some m) t class found known count h act is = absurd (cc)
   made_or_called S x [] left below w (Some k) None t class found known count h act is =
       let e = is w ∙ ap (λ o. construct o (object_number x) (method_in S.repo o constructor) [] f below w) class
       ∙ ap (λ m. construct (Some k) (object_number x) m [] f below w) found in
       subst (λ t. Does r c live (C ∷ left) f act w t) (sym e)
-      (plain_does r c live f (C ∷ left) act w _ (quiet_next r c live f i (C ∷ left) (slots.Cell cells.Null ∷ below) w (tt, h)).plain)
+      (plain_does r c live f (C ∷ left) act w (Goes (ahead f (slots.Cell cells.Null ∷ below)) w) (quiet_next r c live f i (C ∷ left) (slots.Cell cells.Null ∷ below) w (tt, h)).plain)
   made_or_called S x (a ∷ args) left below w (Some k) None t class found known count h act is =
       let e = is w ∙ ap (λ o. construct o (object_number x) (method_in S.repo o constructor) (a ∷ args) f below w) class
       ∙ ap (λ m. construct (Some k) (object_number x) m (a ∷ args) f below w) found in
       subst (λ t. Does r c live (C ∷ left) f act w t) (sym e)
-      (plain_does r c live f (C ∷ left) act w _ (quiet_raises r c live f (C ∷ left) _ _ w call.may).plain)
+      (refused (C ∷ left) act w constructor)
   made_or_called S x args left below w (Some k) (Some m) false class found known count h act is =
       let e = is w ∙ ap (λ o. construct o (object_number x) (method_in S.repo o constructor) args f below w) class
       ∙ ap (λ m. construct (Some k) (object_number x) m args f below w) found
       ∙ ap (λ t. if t then Calls (entered_on (object_number x) m.0 m.1 args) w else no_method constructor w) (count m.0 m.1 refl) in
       subst (λ t. Does r c live (C ∷ left) f act w t) (sym e)
-      (plain_does r c live f (C ∷ left) act w _ (quiet_raises r c live f (C ∷ left) _ _ w call.may).plain)
+      (refused (C ∷ left) act w constructor)
   made_or_called S x args left below w (Some k) (Some m) true class found known count h act is =
       calls (C ∷ left) act w (entered_on (object_number x) m.0 m.1 args) (enters_on r (object_number x) m.0 m.1 args (known m.0 m.1 refl) (count m.0 m.1 refl))
       (λ u grows. is u ∙ ap (λ o. construct o (object_number x) (method_in S.repo o constructor) args f below u) (class_still x w u k grows class)

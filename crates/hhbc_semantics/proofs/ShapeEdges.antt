@@ -33,7 +33,7 @@ abbrev pub OneOf : List ℕ → Option ℕ → Type 0
 OneOf targets None = ⊥
 OneOf targets (Some q) = IsTarget targets q
 
-abbrev targets_of : List Arm → List ℕ
+abbrev pub targets_of : List Arm → List ℕ
 targets_of arms = map (λ (a : Arm). a.target) arms
 
 later : (t : ℕ) (targets : List ℕ) (o : Option ℕ) → OneOf targets o → OneOf (t ∷ targets) o
