@@ -133,13 +133,13 @@ module _ (S : Setting) (known : FindsKnown S) (b : Body) (f : Frame) (s : Shape)
   by_op classes ops.Dup is e l t v n h a = fit_dup S.repo (plain_code ops.Dup is) s.live f s.stack t (record { on = refl; idle = refl; lives = v }) h
   by_op classes ops.PopL is e l t v n h a = fit_pop_local S.repo (plain_code ops.PopL is) s.live f s.stack t (record { on = refl; idle = refl; lives = v }) (local_of is) h
   by_op classes ops.SetL is e l t v n h a = fit_store_local S.repo (plain_code ops.SetL is) s.live f s.stack t (record { on = refl; idle = refl; lives = v }) (local_of is) h
-  by_op classes ops.CGetL is e l t v n h a = fit_get_local S.repo (plain_code ops.CGetL is) s.live f s.stack t (record { on = refl; idle = refl; lives = v }) (local_of is) b (subst (λ m. local_of is < m) (sym l) (local_inside (bounds_of classes b) _ is e)) refl
-  by_op classes ops.CGetQuietL is e l t v n h a = fit_get_quietly S.repo (plain_code ops.CGetQuietL is) s.live f s.stack t (record { on = refl; idle = refl; lives = v }) (local_of is) (subst (λ m. local_of is < m) (sym l) (local_inside (bounds_of classes b) _ is e))
-  by_op classes ops.CGetL2 is e l t v n h a = fit_get_below S.repo (plain_code ops.CGetL2 is) s.live f s.stack t (record { on = refl; idle = refl; lives = v }) (local_of is) b (subst (λ m. local_of is < m) (sym l) (local_inside (bounds_of classes b) _ is e)) refl h
-  by_op classes ops.PushL is e l t v n h a = fit_push_local S.repo (plain_code ops.PushL is) s.live f s.stack t (record { on = refl; idle = refl; lives = v }) (local_of is) b (subst (λ m. local_of is < m) (sym l) (local_inside (bounds_of classes b) _ is e)) refl
+  by_op classes ops.CGetL is e l t v n h a = fit_get_local S.repo (plain_code ops.CGetL is) s.live f s.stack t (record { on = refl; idle = refl; lives = v }) (local_of is) b (subst (λ m. local_of is < m) (sym l) (local_inside (bounds_of classes b) [] is e)) refl
+  by_op classes ops.CGetQuietL is e l t v n h a = fit_get_quietly S.repo (plain_code ops.CGetQuietL is) s.live f s.stack t (record { on = refl; idle = refl; lives = v }) (local_of is) (subst (λ m. local_of is < m) (sym l) (local_inside (bounds_of classes b) [] is e))
+  by_op classes ops.CGetL2 is e l t v n h a = fit_get_below S.repo (plain_code ops.CGetL2 is) s.live f s.stack t (record { on = refl; idle = refl; lives = v }) (local_of is) b (subst (λ m. local_of is < m) (sym l) (local_inside (bounds_of classes b) [] is e)) refl h
+  by_op classes ops.PushL is e l t v n h a = fit_push_local S.repo (plain_code ops.PushL is) s.live f s.stack t (record { on = refl; idle = refl; lives = v }) (local_of is) b (subst (λ m. local_of is < m) (sym l) (local_inside (bounds_of classes b) [] is e)) refl
   by_op classes ops.UnsetL is e l t v n h a = fit_unset_local S.repo (plain_code ops.UnsetL is) s.live f s.stack t (record { on = refl; idle = refl; lives = v }) (local_of is)
-  by_op classes ops.SetOpL is e l t v n h a = fit_set_op S.repo (plain_code ops.SetOpL is) s.live f s.stack t (record { on = refl; idle = refl; lives = v }) (set_op_in is) (local_of is) b (subst (λ m. local_of is < m) (sym l) (local_inside (bounds_of classes b) _ is e)) refl h
-  by_op classes ops.IncDecL is e l t v n h a = fit_inc_dec S.repo (plain_code ops.IncDecL is) s.live f s.stack t (record { on = refl; idle = refl; lives = v }) (inc_dec_in is) (local_of is) b (subst (λ m. local_of is < m) (sym l) (local_inside (bounds_of classes b) _ is e)) refl
+  by_op classes ops.SetOpL is e l t v n h a = fit_set_op S.repo (plain_code ops.SetOpL is) s.live f s.stack t (record { on = refl; idle = refl; lives = v }) (set_op_in is) (local_of is) b (subst (λ m. local_of is < m) (sym l) (local_inside (bounds_of classes b) (imm_kinds.SetOp ∷ []) is e)) refl h
+  by_op classes ops.IncDecL is e l t v n h a = fit_inc_dec S.repo (plain_code ops.IncDecL is) s.live f s.stack t (record { on = refl; idle = refl; lives = v }) (inc_dec_in is) (local_of is) b (subst (λ m. local_of is < m) (sym l) (local_inside (bounds_of classes b) (imm_kinds.IncDec ∷ []) is e)) refl
   by_op classes ops.Concat is e l t v n h a = fit_binary S.repo (plain_code ops.Concat is) s.live f s.stack t (record { on = refl; idle = refl; lives = v }) binary_ops.Concat (λ x y fault k. refl) h
   by_op classes ops.Add is e l t v n h a = fit_binary S.repo (plain_code ops.Add is) s.live f s.stack t (record { on = refl; idle = refl; lives = v }) binary_ops.Add (λ x y fault k. refl) h
   by_op classes ops.Sub is e l t v n h a = fit_binary S.repo (plain_code ops.Sub is) s.live f s.stack t (record { on = refl; idle = refl; lives = v }) binary_ops.Sub (λ x y fault k. refl) h
@@ -163,7 +163,7 @@ module _ (S : Setting) (known : FindsKnown S) (b : Body) (f : Frame) (s : Shape)
   by_op classes ops.Not is e l t v n h a = fit_unary S.repo (plain_code ops.Not is) s.live f s.stack t (record { on = refl; idle = refl; lives = v }) unary_ops.Not (λ x fault k. absurd (cc)) h
   by_op classes ops.CastBool is e l t v n h a = fit_unary S.repo (plain_code ops.CastBool is) s.live f s.stack t (record { on = refl; idle = refl; lives = v }) unary_ops.CastBool (λ x fault k. absurd (cc)) h
   by_op classes ops.IsTypeC is e l t v n h a = fit_test_kind S.repo (plain_code ops.IsTypeC is) s.live f s.stack t (record { on = refl; idle = refl; lives = v }) (is_type_in is) h
-  by_op classes ops.IsTypeL is e l t v n h a = fit_test_local_kind S.repo (plain_code ops.IsTypeL is) s.live f s.stack t (record { on = refl; idle = refl; lives = v }) (is_type_in is) (local_of is) b (subst (λ m. local_of is < m) (sym l) (local_inside (bounds_of classes b) _ is e)) refl
+  by_op classes ops.IsTypeL is e l t v n h a = fit_test_local_kind S.repo (plain_code ops.IsTypeL is) s.live f s.stack t (record { on = refl; idle = refl; lives = v }) (is_type_in is) (local_of is) b (subst (λ m. local_of is < m) (sym l) (local_inside (bounds_of classes b) (imm_kinds.IsType ∷ []) is e)) refl
   by_op classes ops.InstanceOfD is e l t v n h a = fit_instance_of S.repo (plain_code ops.InstanceOfD is) s.live f s.stack t (record { on = refl; idle = refl; lives = v }) S (class_in is) h
   by_op classes ops.NewVec is e l t v n h a = fit_new_vec S.repo (plain_code ops.NewVec is) s.live f s.stack t (record { on = refl; idle = refl; lives = v }) (count_of is) h
   by_op classes ops.NewKeysetArray is e l t v n h a = fit_new_keyset S.repo (plain_code ops.NewKeysetArray is) s.live f s.stack t (record { on = refl; idle = refl; lives = v }) (count_of is) refl h
@@ -196,12 +196,12 @@ module _ (S : Setting) (known : FindsKnown S) (b : Body) (f : Frame) (s : Shape)
   by_op classes ops.CheckThis is e l t v n h a = fit_check_this S.repo (plain_code ops.CheckThis is) s.live f s.stack t (record { on = refl; idle = refl; lives = v }) refl
   by_op classes ops.IterInit is e l t v n h a =
       fit_iter_init S.repo (plain_code ops.IterInit is) s.live f s.stack t v (iter_of is) (iter_locals_in is) (target_in is)
-      (subst (λ m. iter_of is < m) (sym n) (iter_inside (bounds_of classes b) _ is e)) refl refl (iter_target ops.IterInit is (bounds_of classes b) e) refl a.0 h
+      (subst (λ m. iter_of is < m) (sym n) (iter_inside (bounds_of classes b) (imm_kinds.IterLocals ∷ imm_kinds.Label ∷ []) is e)) refl refl (iter_target ops.IterInit is (bounds_of classes b) e) refl a.0 h
   by_op classes ops.IterNext is e l t v n h a =
       fit_iter_next S.repo (plain_code ops.IterNext is) s.live f s.stack t v (iter_of is) (iter_locals_in is) (target_in is)
       refl (iter_target ops.IterNext is (bounds_of classes b) e) refl a.0
   by_op classes ops.IterFree is e l t v n h a = fit_iter_free S.repo (plain_code ops.IterFree is) s.live f s.stack t v (iter_of is) refl refl a.0
-  by_op classes ops.VerifyParamType is e l t v n h a = fit_verify_local S.repo (plain_code ops.VerifyParamType is) s.live f s.stack t (record { on = refl; idle = refl; lives = v }) S (local_of is) (constraint_in is) (subst (λ m. local_of is < m) (sym l) (local_inside (bounds_of classes b) _ is e)) refl
+  by_op classes ops.VerifyParamType is e l t v n h a = fit_verify_local S.repo (plain_code ops.VerifyParamType is) s.live f s.stack t (record { on = refl; idle = refl; lives = v }) S (local_of is) (constraint_in is) (subst (λ m. local_of is < m) (sym l) (local_inside (bounds_of classes b) (imm_kinds.Constraint ∷ []) is e)) refl
   by_op classes ops.VerifyRetTypeC is e l t v n h a = fit_verify_top S.repo (plain_code ops.VerifyRetTypeC is) s.live f s.stack t (record { on = refl; idle = refl; lives = v }) S (constraint_in is) refl h
   by_op classes ops.Print is e l t v n h a = fit_print S.repo (plain_code ops.Print is) s.live f s.stack t (record { on = refl; idle = refl; lives = v }) refl h
 
