@@ -1,5 +1,6 @@
 mod SampleExamples
 pub mod FirstForm
+pub mod GivenLaws
 pub mod Growing
 pub mod LocalCodes
 pub mod OnlyLocal

@@ -5,6 +5,7 @@ pub mod Entering
 pub mod Exceptions
 pub mod Form
 pub mod Frames
+pub mod GivenShapes
 pub mod Growth
 pub mod Immediates
 pub mod Iterators
