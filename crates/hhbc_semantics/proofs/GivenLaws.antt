@@ -65,7 +65,7 @@ live_length (None ∷ is) (false ∷ live) h = ap suc (live_length is live h)
 live_length (Some x ∷ is) (true ∷ live) h = ap suc (live_length is live h)
 live_length (Some x ∷ is) (false ∷ live) h = absurd h
 
-none_live : (n : ℕ) → AreLive (replicate n None) (replicate n false)
+pub none_live : (n : ℕ) → AreLive (replicate n None) (replicate n false)
 none_live zero = tt
 none_live (suc n) = none_live n
 
@@ -93,9 +93,9 @@ module _ (S : Setting) (classes : ℕ) (keeps : Keeps S classes) where
   label_edge : (b : Body) (p : ℕ) (c : Code) (i q : ℕ) → code_at b p ≡ Some c → slice_get (labels c) i ≡ Some q
       → (j : ℕ) × (slice_get (edges b p) j ≡ Some (To q))
   label_edge b p c i q at is =
-      let w = behind_front (next_edges (goes_on c) p) (map (λ q. To q) (labels c) ++ handler_edges (throws c) (handler_of b p)) i (To q)
-      (before_last (map (λ q. To q) (labels c)) (handler_edges (throws c) (handler_of b p)) i (To q) (to_map (λ q. To q) (labels c) i q is)) in
-      (w.0, rw at w.1)
+      let front = next_edges (goes_on c) p in
+      let w = behind_front front (map (λ q. To q) (labels c)) i (To q) (to_map (λ q. To q) (labels c) i q is) in
+      (w.0, rw at (before_last (front ++ map (λ q. To q) (labels c)) (handler_edges (throws c) (handler_of b p)) w.0 (To q) w.1))
 
   handler_edge : (b : Body) (p : ℕ) (c : Code) (q : ℕ) → code_at b p ≡ Some c → throws c ≡ true → handler_of b p ≡ Some q
       → (i : ℕ) × (slice_get (edges b p) i ≡ Some (Handler q))

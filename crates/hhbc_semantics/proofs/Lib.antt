@@ -3,6 +3,7 @@ pub mod FirstForm
 pub mod GivenLaws
 pub mod Growing
 pub mod LocalCodes
+pub mod NeverSticks
 pub mod OnlyLocal
 pub mod SampleTrue
 pub mod ShapeCalls
