@@ -11,3 +11,4 @@ pub mod StaysTrue
 pub mod Stripped
 pub mod TestedRuns
 pub mod Walking
+pub mod WritingLaws

@@ -9,6 +9,7 @@ pub mod Operands
 pub mod Operators
 pub mod Outcome
 pub mod PathKeys
+pub mod PathPhases
 pub mod PathReads
 pub mod PathWrites
 pub mod PlainTypes

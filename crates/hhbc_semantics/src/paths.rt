@@ -1,0 +1,14 @@
+//! Laws of reading and writing along paths, each the contract of a function that does nothing.
+
+ghost use Rattle.hhbc_semantics.specs.PathPhases.{WritesInPhases, WritesKeepObjects};
+
+/// A write in one pass comes to the same as one that first reads all keys but the last, and then
+/// begins at the last property that was passed, or at the base.
+pub fn writes_in_phases()
+    ensures { WritesInPhases }
+{}
+
+/// A write leaves every object in the heap, and of its class.
+pub fn writes_keep_objects()
+    ensures { WritesKeepObjects }
+{}
