@@ -1,9 +1,7 @@
 -- Runs with a bound of steps. They go over the repository without its assertions, which may be tested before each step.
-use Rattle.std.specs.Prelude.{ℕ, zero, suc, ◌-◌, ◌==◌, nat_eq, Bool, true, false, List, [], ◌∷◌, ◌++◌, map, Option, Some, None, slice_get, length, replicate, if◌then◌else◌}
-use Rattle.std.specs.Cmp.Lexicographic.{pointwise}
+use Rattle.std.specs.Prelude.{ℕ, zero, suc, ◌==◌, Bool, true, false, List, [], ◌∷◌, Option, Some, None, slice_get, length, if◌then◌else◌}
 use Rattle.hack_values.specs.declared.cell.Cell.{Cell}
 use Rattle.hack_values.specs.declared.cell.Slot.{Slot}
-use Rattle.hack_values.specs.declared.cell.Slot.TheVariants as slots
 use Rattle.type_lattice.specs.declared.types.HType.{HType}
 use Rattle.type_lattice.specs.Classes.{Tree}
 use Rattle.type_lattice.specs.Member.{Heap, is_member}
@@ -15,6 +13,7 @@ use Rattle.hhbc_repo.specs.Bodies.{tree_of, body_at, asserts_at}
 use Rattle.hhbc_semantics.specs.Setting.{Setting, bare_setting}
 use Rattle.hhbc_semantics.specs.Outcome.{Outcome, AssertFalse, Steps, Stuck, UnknownEntry, WrongCount, Underflow}
 use Rattle.hhbc_semantics.specs.Frames.{World, Frame}
+pub use Rattle.hhbc_semantics.specs.Entering.{function_from, entered}
 use Rattle.hhbc_semantics.specs.Steps.{Config, Running, Ended, place_of, next}
 
 -- whether the slot is of the type, where there is a slot
@@ -61,24 +60,8 @@ abbrev pub after : Setting → Bool → Config → ℕ → Config
 after S asserted c zero = c
 after S asserted c (suc n) = advance S asserted (after S asserted c n)
 
--- the first function of the name, from this number on
-abbrev pub function_from : ℕ → List Body → List ℕ → Option (ℕ × Body)
-function_from n [] name = None
-function_from n (b ∷ bs) name = if pointwise nat_eq b.name name then Some (n, b) else function_from (suc n) bs name
-
 abbrev pub no_world : World
 no_world = record { heap = []; output = [] }
-
--- a frame that enters a body: parameters set, other locals Uninit, no iterator live
-abbrev pub entered : ℕ → Body → List Cell → Frame
-entered n b args = record {
-  body = n;
-  position = 0;
-  locals = map (λ c. slots.Cell c) args ++ replicate (length b.locals - b.params) slots.Uninit;
-  stack = [];
-  iters = replicate b.iters None;
-  this = None;
-}
 
 abbrev pub start_in : Option (ℕ × Body) → List Cell → Config
 start_in None args = Ended UnknownEntry no_world
