@@ -5,6 +5,7 @@ pub mod OnlyLocal
 mod SampleExamples
 pub mod SampleTrue
 pub mod ShapeLaws
+pub mod ShapeMembers
 pub mod ShapeTables
 pub mod Starting
 pub mod StaysTrue
