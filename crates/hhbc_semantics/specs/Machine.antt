@@ -7,13 +7,14 @@ use Rattle.hhbc_repo.specs.Bodies.{body_at, code_at}
 use Rattle.hhbc_semantics.specs.Setting.{Setting}
 use Rattle.hhbc_semantics.specs.Outcome.{Underflow}
 use Rattle.hhbc_semantics.specs.Frames.{World, Frame, Turn, Ends, Sticks}
-use Rattle.hhbc_semantics.specs.Rows.{undefined_code, perform}
+use Rattle.hhbc_semantics.specs.Rows.{perform}
+use Rattle.hhbc_semantics.specs.MemberSequences.{member}
 
--- a position that isn't there counts as an underflow; member sequences come with their first instruction
+-- a position that isn't there counts as an underflow
 abbrev pub perform_code : Setting → Option Code → Body → Frame → World → Turn
 perform_code S None b f w = Ends (Sticks Underflow) w
 perform_code S (Some (kinds.Plain i)) b f w = perform S i.op i.imms b f w
-perform_code S (Some (kinds.Member m)) b f w = undefined_code w
+perform_code S (Some (kinds.Member m)) b f w = member S m b f w
 
 abbrev pub turn_in : Setting → Option Body → Frame → World → Turn
 turn_in S None f w = Ends (Sticks Underflow) w

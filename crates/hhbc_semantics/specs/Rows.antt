@@ -10,8 +10,8 @@ use Rattle.hhbc_repo.specs.declared.code.Imm.{Imm}
 use Rattle.hhbc_repo.specs.declared.body.Body.{Body}
 use Rattle.hhbc_repo.specs.Codes.{local_of, int_of, count_of, iter_of}
 use Rattle.hhbc_semantics.specs.Setting.{Setting}
-use Rattle.hhbc_semantics.specs.Outcome.{Underflow, User}
-use Rattle.hhbc_semantics.specs.Frames.{World, Frame, Turn, Goes, Returns, Ends, Fails, Sticks, ahead, push}
+use Rattle.hhbc_semantics.specs.Outcome.{User}
+use Rattle.hhbc_semantics.specs.Frames.{World, Frame, Turn, Goes, Returns, Ends, Fails, ahead, push}
 use Rattle.hhbc_semantics.specs.Immediates.{text_in, name_in, class_in, target_in, arms_in, set_op_in, inc_dec_in, is_type_in, constraint_in, iter_locals_in}
 use Rattle.hhbc_semantics.specs.Operands.{with_cell, with_uninit}
 use Rattle.hhbc_semantics.specs.Operators.{unary, binary, set_op_local, inc_dec_local}
@@ -22,10 +22,6 @@ use Rattle.hhbc_semantics.specs.Objects.{make_object, instance_of, throw, lock_o
 use Rattle.hhbc_semantics.specs.Containers.{new_vec, new_dict, new_keyset, add_element, add_new_element}
 use Rattle.hhbc_semantics.specs.Iterators.{iter_init, iter_next, iter_free}
 use Rattle.hhbc_semantics.specs.Verification.{test_kind, test_local_kind, verify_local, verify_top, print}
-
--- what is not defined here stops the machine
-abbrev pub undefined_code : World → Turn
-undefined_code w = Ends (Sticks Underflow) w
 
 -- what an instruction does
 abbrev pub perform : Setting → Op → List Imm → Body → Frame → World → Turn
