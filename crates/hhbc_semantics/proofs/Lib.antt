@@ -2,6 +2,7 @@ pub mod FirstForm
 pub mod Growing
 pub mod LocalCodes
 pub mod OnlyLocal
+mod PathExamples
 mod SampleExamples
 pub mod SampleTrue
 pub mod ShapeLaws
