@@ -5,6 +5,7 @@ pub mod OnlyLocal
 mod PathExamples
 mod SampleExamples
 pub mod SampleTrue
+pub mod ReadingBack
 pub mod ShapeLaws
 pub mod ShapeMembers
 pub mod ShapeTables

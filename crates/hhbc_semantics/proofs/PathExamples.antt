@@ -1,5 +1,5 @@
 -- Paths, member sequences and runs with them, computed by the definitions.
-use Rattle.std.proofs.Common.{◌≡◌, ℕ, List, [], ◌∷◌, ◌++◌, None, pos, negsuc, ℤ, false, replicate, refl, ap, arith}
+use Rattle.std.proofs.Common.{◌≡◌, ℕ, List, [], ◌∷◌, ◌++◌, None, pos, negsuc, false, replicate, refl, ap, arith}
 use Rattle.std.specs.Int.{w64}
 use Rattle.std.proofs.lemmas.Int.{int_wrap_fits}
 use Rattle.std.specs.Prelude.{codes}
@@ -12,7 +12,6 @@ use Rattle.hhbc_ops.specs.declared.op.Op.{Op}
 use Rattle.hhbc_ops.specs.declared.op.Op.TheVariants as ops
 use Rattle.hhbc_ops.specs.declared.words.QueryMode.TheVariants as modes
 use Rattle.hhbc_ops.specs.declared.words.IncDecOp.TheVariants as incdecs
-use Rattle.hhbc_repo.specs.declared.code.Code.{Code}
 use Rattle.hhbc_repo.specs.declared.code.Code.TheVariants as kinds
 use Rattle.hhbc_repo.specs.declared.code.Imm.{Imm}
 use Rattle.hhbc_repo.specs.declared.code.Imm.TheVariants as imms
@@ -29,7 +28,7 @@ use Rattle.hhbc_semantics.specs.Outcome.{Outcome, Returned, Uncaught, Fatal, Dep
 use Rattle.hhbc_semantics.specs.Run.{run}
 use Rattle.hhbc_semantics.specs.PathKeys.{Elem}
 use Rattle.hhbc_semantics.specs.PathReads.{Missing, NotContainer, BadKey}
-use Rattle.hhbc_semantics.specs.PathWrites.{Change, Sets, Unsets, Wrote, Base as Rebased, misses, write}
+use Rattle.hhbc_semantics.specs.PathWrites.{Sets, Unsets, Base as Rebased, misses, write}
 
 -- ---- paths
 

@@ -18,7 +18,7 @@ use Rattle.hhbc_semantics.specs.PathPhases.{Start, or_here, pass, last_passed, r
 
 -- ---- where a write has begun, what is further up stays
 
-abbrev settled : Wrote → Bool
+abbrev pub settled : Wrote → Bool
 settled (Base c) = false
 settled (Under n i c) = true
 settled (Refused fault) = true
@@ -29,7 +29,7 @@ settled_tests true deep w e = refl
 settled_tests false true w e = refl
 settled_tests false false w e = e
 
-settled_property : (n i : ℕ) (w : Wrote) → settled (in_property n i w) ≡ true
+pub settled_property : (n i : ℕ) (w : Wrote) → settled (in_property n i w) ≡ true
 settled_property n i (Base c) = settled_tests (nat_lt max_weight (weight (val_of c))) (nat_lt max_depth (depth (val_of c))) (Under n i c) refl
 settled_property n i (Under m j c) = refl
 settled_property n i (Refused fault) = refl

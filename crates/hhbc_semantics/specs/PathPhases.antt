@@ -6,9 +6,9 @@ use Rattle.hack_values.specs.declared.cell.Cell.TheVariants as cells
 use Rattle.type_lattice.specs.Member.{Heap}
 use Rattle.hhbc_repo.specs.Linked.{Linked}
 use Rattle.hhbc_semantics.specs.Growth.{HeapGrows}
-use Rattle.hhbc_semantics.specs.PathKeys.{PathKey, key_cell}
-use Rattle.hhbc_semantics.specs.PathReads.{Miss, NotContainer, Step, Item, Entry, Property, Element, Nothing, Faulty, step}
-use Rattle.hhbc_semantics.specs.PathWrites.{Change, Wrote, misses, last_step, in_item, in_entry, in_property, in_base, change_base, write, heap_after}
+use Rattle.hhbc_semantics.specs.PathKeys.{PathKey, Append, key_cell}
+use Rattle.hhbc_semantics.specs.PathReads.{Miss, NotContainer, Step, Item, Entry, Property, Element, Nothing, Faulty, step, get}
+use Rattle.hhbc_semantics.specs.PathWrites.{Change, Sets, Wrote, Base, misses, last_step, in_item, in_entry, in_property, in_base, change_base, write, heap_after}
 
 -- a property in which a write begins: its object and its place there, what it holds, and the keys that follow
 pub record Start : Type 0 where
@@ -70,3 +70,15 @@ abbrev pub WritesKeepObjects : Type 0
 WritesKeepObjects =
     (r : Linked) (heap : Heap) (change : Change) (c : Cell) (ks : List PathKey)
     → HeapGrows heap (heap_after heap (write r heap change c ks))
+
+abbrev pub AppendsNothing : List PathKey → Type 0
+AppendsNothing [] = Unit {0}
+AppendsNothing (Append ∷ ks) = ⊥
+AppendsNothing (_ ∷ ks) = AppendsNothing ks
+
+-- where another base is left, reading it finds what was put
+abbrev pub ReadsFindWrites : Type 0
+ReadsFindWrites =
+    (r : Linked) (heap : Heap) (v c e : Cell) (ks : List PathKey) → AppendsNothing ks
+    → write r heap (Sets v) c ks ≡ Base e
+    → get r heap e ks ≡ Ok v

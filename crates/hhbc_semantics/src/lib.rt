@@ -9,5 +9,5 @@ pub use laws::{
     bare_is_first_form, first_form_never_sticks, local_codes_never_stick, runs_as_bare,
     second_form_never_sticks, types_where_asserted_walks, types_where_it_walks,
 };
-pub use paths::{writes_in_phases, writes_keep_objects};
+pub use paths::{reads_find_writes, writes_in_phases, writes_keep_objects};
 pub use soundness::{Analysed, facts_stay_true, rounds_stay_true, sample_is_true, tests_only_stop};
