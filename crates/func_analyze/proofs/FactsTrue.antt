@@ -33,7 +33,7 @@ use Rattle.abstract_step.specs.Laws.{Lies as Inhabits}
 use Rattle.func_analyze.specs.Solution.{Table}
 use Rattle.func_analyze.specs.Rounds.{initial_types, top, AreLeast, IsRound, IsFacts}
 use Rattle.func_analyze.specs.Laws.{FactsAreTrue}
-use Rattle.func_analyze.specs.TypeAnalysis.{entry_in, by_types, LiesIn, AllLieIn, FramesLieIn, FramesLie}
+use Rattle.func_analyze.specs.TypeAnalysis.{entry_in, AreBegun, by_types, LiesIn, AllLieIn, FramesLieIn, FramesLie}
 use Rattle.func_analyze.proofs.ClassChains.{classes_are_transitive}
 use Rattle.func_analyze.proofs.RoundOrder.{found, same_cell}
 use Rattle.func_analyze.proofs.TypeLaws.{each_at, type_laws, entered_lies}
@@ -42,8 +42,8 @@ all_cells : (k n : ℕ) (t : HType) → slice_get (each (replicate k cell)) n �
 all_cells k n t e = same_cell k n t (each_at (replicate k cell) n t e)
 
 module _ (S : Setting) where
-  nothing_held : (G : Facts) → HoldIn S.repo (each G.props) []
-  nothing_held G n o e = absurd (cc)
+  nothing_held : (G : Facts) → AreBegun S.repo G → HoldIn S.repo (each G.props) []
+  nothing_held G begun n o e = absurd (cc)
 
   enters : (n : ℕ) (b : Body) (args : List Cell) → body_at S.repo n ≡ Some b → length args ≡ b.params
       → Inhabits (tree_of S.repo) (entered n b args) [] (entry_in (body_at S.repo n))
@@ -76,12 +76,12 @@ module _ (S : Setting) where
 
   round_by : (F G : Facts) (w : IsRound S.repo F G) → IsRoundBy S.repo (by_types S) F w.tables G
   round_by F G w = record {
+    begins = record { initial = λ q t u i k. (w.props q u k).above t (inl i) };
     solve = least_solve F w.tables w.least;
     gives = λ b p s at c v m t is.
         let le = (w.returns b at.0 t at.1 (each_at G.returns b t is)).above _ (record { position = p; state = s; reached = at.2; returned = refl }) in
         cell_in-le (tree_of S.repo) (classes_are_transitive (tree_of S.repo)) v.heap c _ t le m;
     takes = λ b p s at. record {
-      initial = λ q t u i k. (w.props q u k).above t (inl i);
       written = λ q t u i k.
           (w.props q u k).above t (inr (record { body = b; table = at.0; at = at.1; position = p; state = s; reached = at.2; written = i }));
     };
@@ -98,9 +98,10 @@ module _ (S : Setting) where
   round_for_none : (F : Facts) (Ts : List Table) → AreLeast S.repo F Ts → IsRoundBy S.repo (by_types S) F Ts no_facts
   unfolding no_facts
   round_for_none F Ts l = record {
+    begins = record { initial = λ q t u i k. absurd (cc) };
     solve = least_solve F Ts l;
     gives = λ b p s at c v m t is. absurd (cc);
-    takes = λ b p s at. record { initial = λ q t u i k. absurd (cc); written = λ q t u i k. absurd (cc) };
+    takes = λ b p s at. record { written = λ q t u i k. absurd (cc) };
   }
 
   steps_true : OnlyLocalCodes S.repo → (n : ℕ) (F : Facts) → IsFacts S.repo n F → (entry : List ℕ) (args : List Cell) (m : ℕ)

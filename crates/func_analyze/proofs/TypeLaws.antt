@@ -135,7 +135,7 @@ module _ (S : Setting) where
             k.2,
           );
           grows = stays_put v d;
-          takes = λ G t h. subst (λ (u : World). HoldIn S.repo (each G.props) u.heap) (sym d) h;
+          takes = λ G b t h. subst (λ (u : World). HoldIn S.repo (each G.props) u.heap) (sym d) h;
         }
     by_turn b c is at (Calls g v) k d = absurd d
     by_turn b c is at (Returns x v) k d = record {
@@ -143,7 +143,7 @@ module _ (S : Setting) where
           subst (λ (u : World). cell_in (tree_of S.repo) u.heap x (flow S.repo F f.body f.position s).returned ≡ true) (sym d)
           (subst (λ (o : Flows). cell_in (tree_of S.repo) w.heap x o.returned ≡ true) (sym (flow_is F f.body f.position s b c is at)) k.0);
       grows = stays_put v d;
-      takes = λ G t h. subst (λ (u : World). HoldIn S.repo (each G.props) u.heap) (sym d) h;
+      takes = λ G b t h. subst (λ (u : World). HoldIn S.repo (each G.props) u.heap) (sym d) h;
     }
     by_turn b c is at (Raises e v) k d = record {
       fits = (
@@ -152,27 +152,27 @@ module _ (S : Setting) where
         record { body = b; at = is; code = c; there = at; may = d.0 },
       );
       grows = subst (λ (heap : Heap). HeapGrows w.heap heap) (sym d.3) (append_grows w.heap _);
-      takes = λ G t h.
-          subst (λ (heap : Heap). HoldIn S.repo (each G.props) heap) (sym d.3) (holds_made G w.heap d.2 (λ x u i j. t.initial 0 x u i j) h);
+      takes = λ G begun t h.
+          subst (λ (heap : Heap). HoldIn S.repo (each G.props) heap) (sym d.3) (holds_made G w.heap d.2 (λ x u i j. begun.initial 0 x u i j) h);
     }
     by_turn b c is at (Ends (Fails name) v) k d = record {
       fits = tt;
       grows = stays_put v d;
-      takes = λ G t h. subst (λ (u : World). HoldIn S.repo (each G.props) u.heap) (sym d) h;
+      takes = λ G b t h. subst (λ (u : World). HoldIn S.repo (each G.props) u.heap) (sym d) h;
     }
     by_turn b c is at (Ends (Sticks why) v) k d = record {
       fits = tt;
       grows = stays_put v d;
-      takes = λ G t h. subst (λ (u : World). HoldIn S.repo (each G.props) u.heap) (sym d) h;
+      takes = λ G b t h. subst (λ (u : World). HoldIn S.repo (each G.props) u.heap) (sym d) h;
     }
 
     at_code : (b : Body) → ((c : Code) → code_at b f.position ≡ Some c → IsLocalCode c) → body_at S.repo f.body ≡ Some b → (o : Option Code) → code_at b f.position ≡ o → Lies (tree_of S.repo) f w.heap s → goes_with (perform_code S o b f w)
-    at_code b local is None at h = record { fits = tt; grows = λ n c e. e; takes = λ G t k. k }
+    at_code b local is None at h = record { fits = tt; grows = λ n c e. e; takes = λ G b t k. k }
     at_code b local is (Some c) at h =
         by_turn b c is at (perform_code S (Some c) b f w) (fits_code (tree_of S.repo) f w S F f.body c b s (local c at) h) (does_code S c b f w (local c at))
 
     at_body : OnlyLocalCodes S.repo → (o : Option Body) → body_at S.repo f.body ≡ o → Lies (tree_of S.repo) f w.heap s → goes_with (turn_in S o f w)
-    at_body local None is h = record { fits = tt; grows = λ n c e. e; takes = λ G t k. k }
+    at_body local None is h = record { fits = tt; grows = λ n c e. e; takes = λ G b t k. k }
     at_body local (Some b) is h = at_code b (local f.body b is f.position) is (code_at b f.position) refl h
 
     caught_led : (e : Cell) (g : Frame) (may : MayThrowAt S.repo f.body f.position) (o : Option ℕ) → handler_of may.body f.position ≡ o

@@ -27,19 +27,24 @@ abbrev pub entry_in : Option Body → State
 entry_in None = record { locals = []; stack = []; iters = [] }
 entry_in (Some b) = entry_state b
 
--- the second facts are above the types of initial values and above what the state at the position writes under the first
-pub record AreTaken (r : Linked) (F : Facts) (n p : ℕ) (s : State) (G : Facts) : Type 0 where
+-- the facts are above the types of initial values
+pub record AreBegun (r : Linked) (G : Facts) : Type 0 where
   pub initial : (q : ℕ) (t u : HType) → slice_get (initial_types r) q ≡ Some t → slice_get G.props q ≡ Some u → Le (tree_of r) t u
+
+-- the second facts are above what the state at the position writes under the first
+pub record AreTaken (r : Linked) (F : Facts) (n p : ℕ) (s : State) (G : Facts) : Type 0 where
   pub written : (q : ℕ) (t u : HType) → Contains (flow r F n p s).effects (record { property = q; type = t }) → slice_get G.props q ≡ Some u
       → Le (tree_of r) t u
 
--- frames lie in the types of states, and facts are types of what bodies return and properties hold
+-- frames lie in the types of states, and facts are types of what bodies return and properties hold; none of the codes that the flow has rows for
+-- calls a body
 abbrev pub by_types : Setting → Analysis
 by_types S = record {
   turn = λ f w. turn S f w;
   State = State;
   Facts = Facts;
   StateLe = λ s t. StateLe (tree_of S.repo) s t;
+  Begins = λ F. AreBegun S.repo F;
   Grows = WorldGrows;
   Holds = λ f s w. Lies (tree_of S.repo) f w.heap s;
   Shares = λ F w. HoldIn S.repo (each F.props) w.heap;
@@ -49,6 +54,7 @@ by_types S = record {
   MayStick = λ n p s why. Unit {0};
   entry = λ n. entry_in (body_at S.repo n);
   Flows = λ F n p s q t. Contains (flow S.repo F n p s).to (q, t);
+  MayCall = λ F n p s m. ⊥;
   Gives = λ F n p s c w. cell_in (tree_of S.repo) w.heap c (flow S.repo F n p s).returned ≡ true;
   Takes = λ F n p s G. AreTaken S.repo F n p s G;
 }

@@ -16,6 +16,7 @@ use Rattle.hhbc_semantics.specs.Form.{IsSecondForm}
 use Rattle.hhbc_repo.specs.Shapes.{Types, ShapeKind, FailsAt, IsFirstFault, fault_at}
 use Rattle.hhbc_repo.specs.Bodies.{bodies, body_at}
 use Rattle.hhbc_repo.specs.TextSyntax.{FirstFault}
+use Rattle.hhbc_semantics.specs.Setting.{with_six}
 use Rattle.hhbc_semantics.specs.Truth.{IsNeverStuck, SecondFormNeverSticks}
 use Rattle.hhbc_semantics.specs.Outcome as outcomes
 use Rattle.hhbc_semantics.specs.Outcome.{Outcome, Underflow}
@@ -39,7 +40,7 @@ use Rattle.hhbbc_top.specs.declared.words.Command.TheVariants.{Check, Format, An
 use Rattle.hhbbc_top.specs.Answer.{limit_of, line_of, ran, verifies, status_of, out_of, line_to, status_of_answer, out_of_answer, line_of_answer, Accepts, Answers, Expects, HasFirst, HasTextFault, HasLinkFault, HasShapeFault, IsAnswer, IsServed, IsAnnotatedText, IsExpected, IsOrWants, IsOtherText, IsUnserved, Obeys, OfCommand, status_of_unfit, told}
 use Rattle.hhbbc_top.specs.Commands.{AnswersTo, Does, Gives, Goes, Judges, Makes, Serves, Stops, TellsFirst}
 use Rattle.hhbbc_top.specs.FaultLines.{ShapeFault, IsFirst, bad_text, bad_link, bad_shape}
-use Rattle.hhbbc_top.specs.Forms.{position_of, bare_of, repo_of, bare_repo_of, annotated_text}
+use Rattle.hhbbc_top.specs.Forms.{position_of, bare_of, repo_of, setting_of, bare_repo_of, annotated_text}
 use Rattle.hhbbc_top.specs.Mains.{IsMainOf}
 use Rattle.hhbbc_top.specs.ReadText.{IsReadText, SpellsOne, SpelledIsFaultless}
 use Rattle.hhbbc_top.specs.Report.{HasStatus}
@@ -89,7 +90,7 @@ annotated-text laws bytes r m out a h written =
       annotated = annotated_by (bare_repo_of m);
       is = is;
       unique = λ other w. subst (λ (s : Linked). other ≡ annotated_by s) bare-of (laws.unique r other h.form h.words 9 w);
-      faithful = laws.faithful r (annotated_by (bare_repo_of m)) h.form h.types 9 is;
+      faithful = laws.faithful (with_six r) (annotated_by (bare_repo_of m)) h.form h.types 9 is;
       written = written;
       again = subst (λ (o : List ℕ). ReadsRepository o (annotated_by (bare_repo_of m))) (sym written) (laws.back (annotated_by (bare_repo_of m)) (annotated-spelled laws.kept r m h (laws.spelled bytes r a)));
     }
@@ -272,11 +273,11 @@ goes-with (Run steps asserted) r m (Ok a) h k = record { main = m; is = h; makes
 goes-with c r m (Err s) h k = subst (λ (t : Status). Serves c r (Err t)) (sym k) tt
 
 -- no run of what was read is stuck
-pub never-stuck : SecondFormNeverSticks → (r : Linked) (m : Main) → IsMainOf r m → IsNeverStuck (repo_of m)
-never-stuck never r m h = subst IsNeverStuck h.is (never r h.form h.types)
+pub never-stuck : SecondFormNeverSticks → (r : Linked) (m : Main) → IsMainOf r m → IsNeverStuck (setting_of m)
+never-stuck never r m h = subst (λ (r : Linked). IsNeverStuck (with_six r)) h.is (never (with_six r) h.form h.types)
 
-pub not-stuck : (m : Main) (steps : ℕ) (asserted : Bool) (x : Ending) → IsNeverStuck (repo_of m)
-    → run (repo_of m) (codes "main") [] steps asserted ≡ record { outcome = outcome_of m.locals x; output = [] } → x ≢ endings.Stuck
+pub not-stuck : (m : Main) (steps : ℕ) (asserted : Bool) (x : Ending) → IsNeverStuck (setting_of m)
+    → run (setting_of m) (codes "main") [] steps asserted ≡ record { outcome = outcome_of m.locals x; output = [] } → x ≢ endings.Stuck
 not-stuck m steps asserted x never e is = never (codes "main") [] steps asserted Underflow (λ k d h. absurd (omega (arith, h))) (ap (λ (r : Ran). r.outcome) e ∙ ap (outcome_of m.locals) is)
 
 -- the bytes that were read are all that was left, where the source tells them

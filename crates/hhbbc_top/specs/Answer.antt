@@ -11,6 +11,7 @@ use Rattle.hhbc_repo.specs.CanonicalText.{canonical_text}
 use Rattle.hhbc_semantics.specs.Form.{IsSecondForm}
 use Rattle.hhbc_repo.specs.Shapes.{Types}
 use Rattle.hhbc_repo.specs.TextSyntax.{FirstFault}
+use Rattle.hhbc_semantics.specs.Setting.{with_six}
 use Rattle.hhbc_semantics.specs.Run.{Result as Ran, run}
 use Rattle.hhbc_semantics.specs.Truth.{IsFaithful}
 use Rattle.hhas_read.specs.LinkedTexts.{LinksWithFault, ReadsRepository}
@@ -94,14 +95,14 @@ pub record IsAnnotatedText (bytes out : List ℕ) : Type 0 where
   pub is : IsAnnotated rounds repo annotated
   -- the annotated repository is the one and only
   pub unique : (other : Linked) → IsAnnotated rounds repo other → other ≡ annotated
-  pub faithful : IsFaithful repo annotated
+  pub faithful : IsFaithful (with_six repo) annotated
   pub written : out ≡ canonical_text annotated
   -- which is read as it
   pub again : ReadsRepository out annotated
 
--- how main runs with so many steps at most, without arguments
+-- how main runs with so many steps at most, without arguments, over the six natives
 abbrev pub ran : Linked → ℕ → Bool → Ran
-ran r steps asserted = run r (codes "main") [] steps asserted
+ran r steps asserted = run (with_six r) (codes "main") [] steps asserted
 
 -- what is said of the run of main of a text of the form that is read
 pub record IsRunText (bytes : List ℕ) (steps : ℕ) (asserted : Bool) (s : Status) (out told : List ℕ) : Type 0 where

@@ -10,6 +10,7 @@ use Rattle.hhbc_repo.specs.declared.body.Body.{Body}
 use Rattle.hhbc_repo.specs.declared.body.Position.{Position}
 use Rattle.hhbc_repo.specs.Linked.{Linked}
 use Rattle.hhbc_repo.specs.CanonicalText.{canonical_text}
+use Rattle.hhbc_semantics.specs.Setting.{Setting, with_six}
 use Rattle.func_analyze.specs.Chain.{annotated_by}
 use Rattle.abstract_step.specs.State.{State}
 use Rattle.hhbbc_top.specs.declared.form.Step.{Step}
@@ -49,6 +50,10 @@ body_of m = record {
 -- the repository of one function
 abbrev pub repo_of : Main → Linked
 repo_of m = record { functions = body_of m ∷ []; classes = [] }
+
+-- what it runs in
+abbrev pub setting_of : Main → Setting
+setting_of m = with_six (repo_of m)
 
 -- a code alone
 abbrev pub bare_of : Line → Position

@@ -10,7 +10,8 @@ ghost use Rattle.hhbc_semantics.specs.Frames as frames;
 ghost use Rattle.hhbc_semantics.specs.Machine as machines;
 ghost use Rattle.hhbc_semantics.specs.Operands as operands;
 ghost use Rattle.hhbc_semantics.specs.Run as runs;
-ghost use Rattle.hhbbc_top.specs.Forms.{code_of, repo_of};
+ghost use Rattle.hhbc_semantics.specs.Setting.{Setting};
+ghost use Rattle.hhbbc_top.specs.Forms.{code_of, setting_of};
 ghost use Rattle.hhbbc_top.specs.Running as running;
 
 use crate::form::{Line, Main, Step};
@@ -201,7 +202,7 @@ fn set_local(machine: &mut Machine, local: u8) -> Turn
 /// Does what a code does.
 fn perform(machine: &mut Machine, step: Step) -> Result<Turn, NoMemory>
     requires { machine.old.position < 2 ^ 63 }
-    ensures { IfOk result (λ turn. (b : Body) → machines.perform_code (Some (code_of step)) b (running.frame_of machine.old) runs.no_world ≡ running.turn_of b.locals turn (running.frame_of machine.new)) }
+    ensures { IfOk result (λ turn. (S : Setting) (b : Body) → machines.perform_code S (Some (code_of step)) b (running.frame_of machine.old) runs.no_world ≡ running.turn_of b.locals turn (running.frame_of machine.new)) }
 {
     match step {
         Step::Null => push(machine, Value::Null),
@@ -225,7 +226,7 @@ fn perform(machine: &mut Machine, step: Step) -> Result<Turn, NoMemory>
 /// One step: the code at the machine's position.
 fn advance(machine: &mut Machine, line: &Line) -> Result<Option<Ending>, NoMemory>
     requires { machine.old.position < 2 ^ 63 }
-    ensures { (m : Main) → slice_get m.codes machine.old.position ≡ Some line.now → running.Turned m.locals result machine.new (runs.advance (repo_of m) false (running.config_of machine.old)) }
+    ensures { (m : Main) → slice_get m.codes machine.old.position ≡ Some line.now → running.Turned m.locals result machine.new (runs.advance (setting_of m) false (running.config_of machine.old)) }
 {
     let position = machine.position;
     match perform(machine, line.step)? {
@@ -238,7 +239,7 @@ fn advance(machine: &mut Machine, line: &Line) -> Result<Option<Ending>, NoMemor
 
 /// One turn: the assertions of the position, if they are tested, and then one step.
 fn take_turn(machine: &mut Machine, main: &Main, asserted: bool) -> Result<Option<Ending>, NoMemory>
-    ensures { running.Turned main.now.locals result machine.new (runs.advance (repo_of main.now) asserted (running.config_of machine.old)) }
+    ensures { running.Turned main.now.locals result machine.new (runs.advance (setting_of main.now) asserted (running.config_of machine.old)) }
 {
     let Some(line) = main.codes.as_slice().get(machine.position) else {
         return Ok(Some(Ending::Stuck));
@@ -256,7 +257,7 @@ fn take_turn(machine: &mut Machine, main: &Main, asserted: bool) -> Result<Optio
 /// Runs a function with at most so many steps. With `asserted` the assertions of each code are tested before it; they
 /// are no steps.
 pub fn run(alloc: Global, main: &Main, steps: u32, asserted: bool) -> Result<Ending, NoMemory>
-    ensures { IfOk result (λ ending. runs.run (repo_of main.now) (codes "main") [] steps asserted ≡ record { outcome = running.outcome_of main.now.locals ending; output = [] }) }
+    ensures { IfOk result (λ ending. runs.run (setting_of main.now) (codes "main") [] steps asserted ≡ record { outcome = running.outcome_of main.now.locals ending; output = [] }) }
 {
     let mut machine = entered(alloc, main.locals.as_slice().len())?;
     for count in 0..steps {

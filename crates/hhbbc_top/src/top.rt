@@ -14,7 +14,7 @@ ghost use Rattle.func_analyze.specs.Chain.{annotated_by};
 ghost use Rattle.stack_verify.specs.Verified.{IsRefused};
 ghost use Rattle.hhbbc_top.specs.Answer as answers;
 ghost use Rattle.hhbbc_top.specs.Commands as commands;
-ghost use Rattle.hhbbc_top.specs.Forms.{bare_repo_of, repo_of};
+ghost use Rattle.hhbbc_top.specs.Forms.{bare_repo_of, setting_of};
 ghost use Rattle.hhbbc_top.specs.Words.{command_of};
 
 use crate::annotation::annotated;
@@ -293,7 +293,7 @@ fn written(alloc: Global, main: Main) -> Result<Answer, Status>
 
 /// How a function runs.
 fn reported(alloc: Global, main: &Main, steps: u32, asserted: bool) -> Result<Answer, Status>
-    requires { IsNeverStuck (repo_of main.now) }
+    requires { IsNeverStuck (setting_of main.now) }
     ensures { commands.Does (Command.Run steps asserted) main.now result }
 {
     let Ok(ending) = run(alloc, main, steps, asserted) else {

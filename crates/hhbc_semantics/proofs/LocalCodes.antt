@@ -121,7 +121,7 @@ module _ (S : Setting) (codes : HasLocalCodes S.repo) (types : Types S.repo) whe
       subst (λ c. Sound (bare S.repo) (by_shapes (bare_setting S)) (tables (bare_setting S) keeps) (tt {0}) c) (sym (after_steps S (start S entry args) m))
       (subst (λ c. Sound (bare S.repo) (by_shapes (bare_setting S)) (tables (bare_setting S) keeps) (tt {0}) (steps_by (λ f w. turn (bare_setting S) f w) (bare S.repo) c m)) (sym (same_start S entry args))
       ((rounds_stay_true by_shapes (bare_setting S) (shape_laws (bare_setting S) keeps) (tt {0}) everything (start (bare_setting S) entry args)
-      (starts (bare_setting S) (by_shapes (bare_setting S)) (λ G. tt) enters entry args) 0 (tt {0}) refl).1 (tables (bare_setting S) keeps) (tt {0}) (shapes_solve (bare_setting S) keeps) m))
+      (starts (bare_setting S) (by_shapes (bare_setting S)) (λ G b. tt) enters entry args) 0 (tt {0}) refl).1 (tables (bare_setting S) keeps) (tt {0}) (shapes_solve (bare_setting S) keeps) m))
     where
       everything : (c : Config) → soundness.TrueOf (bare S.repo) (by_shapes (bare_setting S)) (tt {0}) c
       everything (Running f fs w) = (tt, λ c v is. tt)

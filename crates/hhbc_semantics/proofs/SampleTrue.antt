@@ -33,38 +33,39 @@ module _ (program : Program) (r : Linked) where
   -- the acts by the position at which they stand
   called : (F : Known) (f : Frame) (s : Kind) (w : World) (b : ℕ) (o : Option Body) → body_at r b ≡ o
       → act_at program f.body f.position ≡ Some (Call b) → goes_with F f s w (call o b w)
-  called F f s w b None is at = record { fits = tt; grows = tt; takes = λ G t h. h }
+  called F f s w b None is at = record { fits = tt; grows = tt; takes = λ G b t h. h }
   called F f s w b (Some body) is at = record {
     fits = (
       (body, is),
       refl,
       tt,
       rw at tt,
+      rw at refl,
       (λ u g t. rw (at, is) refl),
       λ c u g h. (kind_of F b, rw at (inl (refl, refl)), h, refl),
     );
     grows = tt;
-    takes = λ G t h. h;
+    takes = λ G b t h. h;
   }
 
   returned : (F : Known) (f : Frame) (s : Kind) (w : World) (ss : List Slot) → act_at program f.body f.position ≡ Some Return → TopIs ss s
       → goes_with F f s w (with_cell ss w (λ c rest. Returns c w))
-  returned F f s w [] at h = record { fits = tt; grows = tt; takes = λ G t h. h }
-  returned F f s w (slots.Uninit ∷ rest) at h = record { fits = tt; grows = tt; takes = λ G t h. h }
-  returned F f s w (slots.Cell c ∷ rest) at h = record { fits = rw at h; grows = tt; takes = λ G t h. h }
+  returned F f s w [] at h = record { fits = tt; grows = tt; takes = λ G b t h. h }
+  returned F f s w (slots.Uninit ∷ rest) at h = record { fits = tt; grows = tt; takes = λ G b t h. h }
+  returned F f s w (slots.Cell c ∷ rest) at h = record { fits = rw at h; grows = tt; takes = λ G b t h. h }
 
   acts : (F : Known) (f : Frame) (s : Kind) (w : World) (o : Option Act) → act_at program f.body f.position ≡ o → TopIs f.stack s
       → goes_with F f s w (act r o f w)
-  acts F f s w None at h = record { fits = tt; grows = tt; takes = λ G t h. h }
-  acts F f s w (Some (Number i)) at h = record { fits = (Int, rw at (refl, refl), (i, refl), refl); grows = tt; takes = λ G t h. h }
-  acts F f s w (Some Nothing) at h = record { fits = (Any, rw at (refl, refl), tt, refl); grows = tt; takes = λ G t h. h }
+  acts F f s w None at h = record { fits = tt; grows = tt; takes = λ G b t h. h }
+  acts F f s w (Some (Number i)) at h = record { fits = (Int, rw at (refl, refl), (i, refl), refl); grows = tt; takes = λ G b t h. h }
+  acts F f s w (Some Nothing) at h = record { fits = (Any, rw at (refl, refl), tt, refl); grows = tt; takes = λ G b t h. h }
   acts F f s w (Some (Write byte)) at h = record {
     fits = (s, rw at (refl, refl), h, refl);
     grows = tt;
-    takes = λ G t k e. let n : G.silent ≡ false = subst (λ o. ActTakes o G) at t in absurd (cc);
+    takes = λ G b t k e. let n : G.silent ≡ false = subst (λ o. ActTakes o G) at t in absurd (cc);
   }
   acts F f s w (Some (Call b)) at h = called F f s w b (body_at r b) refl at
-  acts F f s w (Some Throw) at h = record { fits = (tt, rw at tt); grows = tt; takes = λ G t h. h }
+  acts F f s w (Some Throw) at h = record { fits = (tt, rw at tt); grows = tt; takes = λ G b t h. h }
   acts F f s w (Some Return) at h = returned F f s w f.stack at h
 
   -- an exception leads to the handler
@@ -102,4 +103,4 @@ module _ (program : Program) (r : Linked) where
 pub sample_is_true : SampleIsTrue
 sample_is_true program r b body is n F rounds =
     (rounds_stay_true (λ S. sample program S.repo) (with_six r) (sample_laws program r) unknown (unknown_true program r) (Running (fresh b) [] no_world)
-    (refl, (body, is), refl, tt, λ G e. refl) n F rounds).0
+    (refl, (body, is), refl, tt, λ G b e. refl) n F rounds).0

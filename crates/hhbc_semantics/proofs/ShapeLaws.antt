@@ -131,23 +131,23 @@ module _ (S : Setting) (keeps : Keeps S.repo) where
       k.0,
     );
     grows = tt;
-    takes = λ G t u. tt;
+    takes = λ G b t u. tt;
   }
   by_turn f s w b c is at none h (Calls g v) k = absurd k
-  by_turn f s w b c is at none h (Returns x v) k = record { fits = tt; grows = tt; takes = λ G t u. tt }
+  by_turn f s w b c is at none h (Returns x v) k = record { fits = tt; grows = tt; takes = λ G b t u. tt }
   by_turn f s w b c is at none h (Raises e v) k = record {
     fits = (tt, record { body = b; at = is; code = c; there = at; may = k });
     grows = tt;
-    takes = λ G t u. tt;
+    takes = λ G b t u. tt;
   }
-  by_turn f s w b c is at none h (Ends (Fails name) v) k = record { fits = tt; grows = tt; takes = λ G t u. tt }
+  by_turn f s w b c is at none h (Ends (Fails name) v) k = record { fits = tt; grows = tt; takes = λ G b t u. tt }
   by_turn f s w b c is at none h (Ends (Sticks why) v) k = record {
     fits = λ has.
         let x : b ≡ has.body = let e = sym is ∙ has.at in cc in
         let y : has.code ≡ c = let e = sym has.there ∙ subst (λ b. code_at b f.position ≡ Some c) x at in cc in
         k (subst (λ c. nat_le (length (pops c)) (length s.stack) ≡ true) y has.enough) (subst (λ c. agree (pops c) s.stack ≡ true) y has.agrees);
     grows = tt;
-    takes = λ G t u. tt;
+    takes = λ G b t u. tt;
   }
 
   at_code : (f : Frame) (s : Shape) (w : World) (b : Body) → body_at S.repo f.body ≡ Some b → (o : Option Code) → code_at b f.position ≡ o
@@ -157,7 +157,7 @@ module _ (S : Setting) (keeps : Keeps S.repo) where
         let x : b ≡ has.body = let e = sym is ∙ has.at in cc in
         let e = sym (subst (λ b. code_at b f.position ≡ None) x at) ∙ has.there in absurd (cc);
     grows = tt;
-    takes = λ G t u. tt;
+    takes = λ G b t u. tt;
   }
   at_code f s w b is (Some c) at h =
       let fits = keeps.codes f.body b is f.position c at in
@@ -165,7 +165,7 @@ module _ (S : Setting) (keeps : Keeps S.repo) where
       (does_code S (length b.locals) c b s.stack f w fits (h.locals b is) h.stack)
 
   at_body : (f : Frame) (s : Shape) (w : World) (o : Option Body) → body_at S.repo f.body ≡ o → IsOfShape S.repo f s → goes_with f s w (turn_in S o f w)
-  at_body f s w None is h = record { fits = λ has. let e = sym is ∙ has.at in absurd (cc); grows = tt; takes = λ G t u. tt }
+  at_body f s w None is h = record { fits = λ has. let e = sym is ∙ has.at in absurd (cc); grows = tt; takes = λ G b t u. tt }
   at_body f s w (Some b) is h = at_code f s w b is (code_at b f.position) refl h
 
   caught_led : (f : Frame) (s : Shape) (w : World) (e : Cell) (g : Frame) (may : MayThrowAt S.repo f.body f.position) (o : Option ℕ)
@@ -240,6 +240,7 @@ module _ (S : Setting) (keeps : Keeps S.repo) where
 
   pub shapes_solve : IsRoundBy S.repo (by_shapes S) (tt {0}) tables (tt {0})
   shapes_solve = record {
+    begins = tt;
     solve = record {
       enters = λ n is. (
         given is.0 0,

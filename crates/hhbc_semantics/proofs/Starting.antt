@@ -33,8 +33,8 @@ function_at r name e is =
     let k : e.0 ≡ w.0 = w.1 ∙ omega arith in
     subst (λ n. slice_get (bodies r) n ≡ Some e.1) (sym k) (before_last r.functions _ w.0 e.1 w.2)
 
--- a run starts as an analysis wants, where no facts are false of the empty world and a frame that enters a body is as the entry says
-module _ (S : Setting) (A : Analysis) (empty : (G : A.Facts) → A.Shares G no_world)
+-- a run starts as an analysis wants, where all facts that begin are true of the empty world and a frame that enters a body is as the entry says
+module _ (S : Setting) (A : Analysis) (empty : (G : A.Facts) → A.Begins G → A.Shares G no_world)
     (enters : (n : ℕ) (b : Body) (args : List Cell) → body_at S.repo n ≡ Some b → length args ≡ b.params → A.Holds (entered n b args) (A.entry n) no_world) where
   starts_counted : (e : ℕ × Body) (args : List Cell) → body_at S.repo e.0 ≡ Some e.1 → (t : Bool) → (length args == e.1.params) ≡ t
       → Starts S.repo A (cond t (Running (entered e.0 e.1 args) [] no_world) (Ended WrongCount no_world))

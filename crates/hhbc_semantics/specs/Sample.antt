@@ -109,12 +109,17 @@ abbrev pub ActTakes : Option Act → Known → Type 0
 ActTakes (Some (Write byte)) G = G.silent ≡ false
 ActTakes _ G = Unit {0}
 
+abbrev pub CallsTo : Option Act → ℕ → Type 0
+CallsTo (Some (Call b)) m = m ≡ b
+CallsTo _ m = ⊥
+
 abbrev pub sample : Program → Linked → Analysis
 sample program r = record {
   turn = λ f w. act r (act_at program f.body f.position) f w;
   State = Kind;
   Facts = Known;
   StateLe = KindLe;
+  Begins = λ F. Unit {0};
   Grows = λ v w. Unit {0};
   Holds = λ f s w. TopIs f.stack s;
   Shares = λ F w. F.silent ≡ true → w.output ≡ [];
@@ -124,6 +129,7 @@ sample program r = record {
   MayStick = λ b p s why. Unit {0};
   entry = λ b. Any;
   Flows = λ F b p s q t. ActFlows F p s (handler_in (body_at r b) p) (act_at program b p) q t;
+  MayCall = λ F b p s m. CallsTo (act_at program b p) m;
   Gives = λ F b p s c w. ActGives s (act_at program b p) c;
   Takes = λ F b p s G. ActTakes (act_at program b p) G;
 }

@@ -83,6 +83,7 @@ by_shapes S = record {
   State = Shape;
   Facts = Unit {0};
   StateLe = λ s t. s ≡ t;
+  Begins = λ F. Unit {0};
   Grows = λ v w. Unit {0};
   Holds = λ f s w. IsOfShape S.repo f s;
   Shares = λ F w. Unit {0};
@@ -92,6 +93,7 @@ by_shapes S = record {
   MayStick = λ n p s why. HasSlots S.repo n p s → ⊥;
   entry = λ n. entry_shape (body_at S.repo n);
   Flows = λ F n p s q t. HandsOn S.repo n p s q t;
+  MayCall = λ F n p s m. Unit {0};
   Gives = λ F n p s c w. Unit {0};
   Takes = λ F n p s G. Unit {0};
 }

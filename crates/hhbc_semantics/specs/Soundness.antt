@@ -20,6 +20,8 @@ pub record Analysis : Type 1 where
   -- what may be known of all bodies and of what frames share: what bodies return and properties hold
   pub Facts : Type 0
   pub StateLe : State → State → Type 0
+  -- a round of facts begins: the facts say of what frames share what its initial values are
+  pub Begins : Facts → Type 0
   -- what was there before is there still: the objects of the first world, with their classes, are in the second
   pub Grows : World → World → Type 0
   -- the frame is as the state says
@@ -38,9 +40,11 @@ pub record Analysis : Type 1 where
   pub entry : ℕ → State
   -- under the facts the state at a position of a body flows to another position, as another state
   pub Flows : Facts → ℕ → ℕ → State → ℕ → State → Type 0
+  -- under the facts the state at a position of a body may call that body
+  pub MayCall : Facts → ℕ → ℕ → State → ℕ → Type 0
   -- under the facts the state at a position of a body may return the cell
   pub Gives : Facts → ℕ → ℕ → State → Cell → World → Type 0
-  -- the second facts say of what frames share what the initial values and the effects of the state, under the first facts, make of it
+  -- the second facts say of what frames share what the effects of the state, under the first facts, make of it
   pub Takes : Facts → ℕ → ℕ → State → Facts → Type 0
 
 -- the world that a turn leaves
@@ -83,12 +87,14 @@ module _ (r : Linked) (A : Analysis) where
   abbrev pub Led : A.Facts → Frame → A.State → Frame → World → Type 0
   Led F f s g w = (t : A.State) × A.Flows F f.body f.position s g.position t × A.Holds g t w × (g.body ≡ f.body)
 
-  -- by kinds of step: where the frame goes on it is led there; where it calls, the callee begins as its entry says, the frame calls the
-  -- same body as long as it waits, and is led behind the call by what that body returns; a cell that it returns or raises is one that it may
+  -- by kinds of step: where the frame goes on it is led there; where it calls, the callee is one that it may call and begins as its entry
+  -- says, the frame calls the same body as long as it waits, and is led behind the call by what that body returns; a cell that it returns
+  -- or raises is one that it may
   abbrev pub Fits : A.Facts → Frame → A.State → World → Turn → Type 0
   Fits F f s w (Goes g v) = Led F f s g v
   Fits F f s w (Calls g v) =
       IsBody r g.body × (g.position ≡ 0) × A.Holds g (A.entry g.body) v × A.MayThrow f.body f.position
+      × A.MayCall F f.body f.position s g.body
       × ((u : World) → A.Grows w u → A.Shares F u → CallsBody g.body (A.turn f u))
       × ((c : Cell) (u : World) → A.Grows w u → A.MayReturn F g.body c u → Led F f s (after_call r f c) u)
   Fits F f s w (Returns c v) = A.Gives F f.body f.position s c v
@@ -100,7 +106,7 @@ module _ (r : Linked) (A : Analysis) where
   pub record GoesWith (F : A.Facts) (f : Frame) (s : A.State) (w : World) (t : Turn) : Type 0 where
     pub fits : Fits F f s w t
     pub grows : A.Grows w (world_of t)
-    pub takes : (G : A.Facts) → A.Takes F f.body f.position s G → A.Shares G w → A.Shares G (world_of t)
+    pub takes : (G : A.Facts) → A.Begins G → A.Takes F f.body f.position s G → A.Shares G w → A.Shares G (world_of t)
 
   -- what an analysis owes
   pub record Laws : Type 0 where
@@ -118,8 +124,9 @@ module _ (r : Linked) (A : Analysis) where
     pub enters : (b : ℕ) → IsBody r b → (s : A.State) × At Ts b 0 s × A.StateLe (A.entry b) s
     pub closed : (b p : ℕ) (s : A.State) (q : ℕ) (t : A.State) → At Ts b p s → A.Flows F b p s q t → (u : A.State) × At Ts b q u × A.StateLe t u
 
-  -- the second facts say all that the states of a solution under the first return and write
+  -- the second facts begin, and say all that the states of a solution under the first return and write
   pub record IsRoundBy (F : A.Facts) (Ts : List (List (Option A.State))) (G : A.Facts) : Type 0 where
+    pub begins : A.Begins G
     pub solve : Solve F Ts
     pub gives : (b p : ℕ) (s : A.State) → At Ts b p s → (c : Cell) (w : World) → A.Gives F b p s c w → A.MayReturn G b c w
     pub takes : (b p : ℕ) (s : A.State) → At Ts b p s → A.Takes F b p s G
@@ -152,11 +159,11 @@ module _ (r : Linked) (A : Analysis) where
   Sound Ts G (Running f fs w) = A.Shares G w × Lies Ts f w × Waiting Ts f.body fs w
   Sound Ts G (Ended o w) = A.Shares G w × EndsWell Ts o
 
-  -- one frame that enters a body, in a world where no facts are false; or an end in such a world, which isn't stuck
+  -- one frame that enters a body, in a world where all facts that begin are true; or an end in such a world, which isn't stuck
   abbrev pub Starts : Config → Type 0
   Starts (Running f fs w) =
-      (fs ≡ []) × IsBody r f.body × (f.position ≡ 0) × A.Holds f (A.entry f.body) w × ((G : A.Facts) → A.Shares G w)
-  Starts (Ended o w) = ((why : Why) → o ≡ Stuck why → ⊥) × ((G : A.Facts) → A.Shares G w)
+      (fs ≡ []) × IsBody r f.body × (f.position ≡ 0) × A.Holds f (A.entry f.body) w × ((G : A.Facts) → A.Begins G → A.Shares G w)
+  Starts (Ended o w) = ((why : Why) → o ≡ Stuck why → ⊥) × ((G : A.Facts) → A.Begins G → A.Shares G w)
 
 -- from a sound configuration, facts that are true in a run stay true after a round, and each configuration is sound
 abbrev pub FactsStayTrue : (Setting → Analysis) → Type 0
@@ -173,3 +180,25 @@ RoundsStayTrue A =
     → (n : ℕ) (F : (A S).Facts) → AreByRounds S.repo (A S) first n F
     → ((m : ℕ) → TrueOf S.repo (A S) F (steps_by (A S).turn S.repo c m))
     × ((Ts : Tables S.repo (A S)) (G : (A S).Facts) → IsRoundBy S.repo (A S) F Ts G → (m : ℕ) → Sound S.repo (A S) Ts G (steps_by (A S).turn S.repo c m))
+
+-- a run starts soundly by each round
+abbrev pub StartsAreSound : (Setting → Analysis) → Type 0
+StartsAreSound A =
+    (S : Setting) → Laws S.repo (A S) → (F G : (A S).Facts) (Ts : Tables S.repo (A S)) → IsRoundBy S.repo (A S) F Ts G
+    → (c : Config) → Starts S.repo (A S) c → Sound S.repo (A S) Ts G c
+
+-- facts that are a round under themselves are true in each run from a sound configuration, and each configuration is sound, with nothing known of
+-- the run before
+abbrev pub ClosedFactsAreTrue : (Setting → Analysis) → Type 0
+ClosedFactsAreTrue A =
+    (S : Setting) → Laws S.repo (A S) → (F : (A S).Facts) (Ts : Tables S.repo (A S)) → IsRoundBy S.repo (A S) F Ts F
+    → (c : Config) → Sound S.repo (A S) Ts F c
+    → (n : ℕ) → Sound S.repo (A S) Ts F (steps_by (A S).turn S.repo c n) × TrueOf S.repo (A S) F (steps_by (A S).turn S.repo c n)
+
+-- a call that the topmost frame makes is one that some state at its position may make, under facts that are true of it
+abbrev pub CallsAreTold : (Setting → Analysis) → Type 0
+CallsAreTold A =
+    (S : Setting) → Laws S.repo (A S) → (F G : (A S).Facts) (Ts : Tables S.repo (A S)) (f : Frame) (fs : List Frame) (w : World)
+    → TrueOf S.repo (A S) F (Running f fs w) → Sound S.repo (A S) Ts G (Running f fs w)
+    → (g : Frame) (v : World) → (A S).turn f w ≡ Calls g v
+    → (s : (A S).State) × At S.repo (A S) Ts f.body f.position s × (A S).MayCall F f.body f.position s g.body

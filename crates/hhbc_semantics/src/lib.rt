@@ -10,4 +10,7 @@ pub use laws::{
     second_form_never_sticks, types_where_asserted_walks, types_where_it_walks,
 };
 pub use paths::{reads_find_writes, writes_in_phases, writes_keep_objects};
-pub use soundness::{Analysed, facts_stay_true, rounds_stay_true, sample_is_true, tests_only_stop};
+pub use soundness::{
+    Analysed, calls_are_told, closed_facts_are_true, facts_stay_true, rounds_stay_true,
+    sample_is_true, starts_are_sound, tests_only_stop,
+};

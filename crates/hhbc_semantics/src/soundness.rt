@@ -2,7 +2,7 @@
 //! function that does nothing.
 
 ghost use Rattle.hhbc_semantics.specs.Setting.{Setting};
-ghost use Rattle.hhbc_semantics.specs.Soundness.{Analysis, FactsStayTrue, RoundsStayTrue};
+ghost use Rattle.hhbc_semantics.specs.Soundness.{Analysis, CallsAreTold, ClosedFactsAreTrue, FactsStayTrue, RoundsStayTrue, StartsAreSound};
 ghost use Rattle.hhbc_semantics.specs.Sample.{SampleIsTrue};
 ghost use Rattle.hhbc_semantics.specs.Tested.{TestsOnlyStop};
 
@@ -25,6 +25,24 @@ pub fn facts_stay_true<A: Analysed>()
 /// that wait for a call too, lies in the state of its position by each round from these facts.
 pub fn rounds_stay_true<A: Analysed>()
     ensures { RoundsStayTrue A.analysis }
+{}
+
+/// A run starts soundly by each round: the world is as its facts say, and its frame lies in the state
+/// of the position that it enters.
+pub fn starts_are_sound<A: Analysed>()
+    ensures { StartsAreSound A.analysis }
+{}
+
+/// Facts that are a round under themselves are true in every run from a sound configuration, and each
+/// configuration is sound; nothing has to be known of the run before.
+pub fn closed_facts_are_true<A: Analysed>()
+    ensures { ClosedFactsAreTrue A.analysis }
+{}
+
+/// Each body that a frame of a sound configuration calls is one that the state of its position may
+/// call under true facts.
+pub fn calls_are_told<A: Analysed>()
+    ensures { CallsAreTold A.analysis }
 {}
 
 /// An example: in each run of a small language, whose bodies call one another, write, and raise and
