@@ -6,6 +6,7 @@ mod PathExamples
 mod SampleExamples
 pub mod SampleTrue
 pub mod ReadingBack
+pub mod RefusedMembers
 pub mod ShapeLaws
 pub mod ShapeMembers
 pub mod ShapeTables

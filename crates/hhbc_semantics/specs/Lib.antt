@@ -12,6 +12,7 @@ pub mod Limits
 pub mod LocalCodes
 pub mod Locals
 pub mod Machine
+pub mod MemberLaws
 pub mod MemberSequences
 pub mod Objects
 pub mod Operands
