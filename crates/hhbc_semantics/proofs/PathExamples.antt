@@ -1,5 +1,5 @@
 -- Paths, member sequences and runs with them, computed by the definitions.
-use Rattle.std.proofs.Common.{◌≡◌, ℕ, List, [], ◌∷◌, ◌++◌, None, pos, negsuc, false, replicate, refl, ap, arith}
+use Rattle.std.proofs.Common.{◌≡◌, ℕ, List, [], ◌∷◌, ◌++◌, None, pos, negsuc, false, replicate, refl, ap, arith, Ok, Err}
 use Rattle.std.specs.Int.{w64}
 use Rattle.std.proofs.lemmas.Int.{int_wrap_fits}
 use Rattle.std.specs.Prelude.{codes}
@@ -22,13 +22,14 @@ use Rattle.hhbc_repo.specs.declared.code.Final.{Final}
 use Rattle.hhbc_repo.specs.declared.code.Final.TheVariants as finals
 use Rattle.hhbc_repo.specs.declared.body.Position.{Position}
 use Rattle.hhbc_repo.specs.declared.body.Region.{Region}
+use Rattle.type_lattice.specs.Member.{Heap}
 use Rattle.hhbc_repo.specs.Linked.{Linked}
 use Rattle.hhbc_semantics.specs.Setting.{with_six}
 use Rattle.hhbc_semantics.specs.Outcome.{Outcome, Returned, Uncaught, Fatal, Depth}
 use Rattle.hhbc_semantics.specs.Run.{run}
-use Rattle.hhbc_semantics.specs.PathKeys.{Elem}
-use Rattle.hhbc_semantics.specs.PathReads.{Missing, NotContainer, BadKey}
-use Rattle.hhbc_semantics.specs.PathWrites.{Sets, Unsets, Base as Rebased, misses, write}
+use Rattle.hhbc_semantics.specs.PathKeys.{Elem, Prop, BadProp, Nullsafe, Append}
+use Rattle.hhbc_semantics.specs.PathReads.{Missing, NotContainer, BadKey, get}
+use Rattle.hhbc_semantics.specs.PathWrites.{Sets, Unsets, Base as Rebased, Under, misses, write}
 
 -- ---- paths
 
@@ -74,6 +75,75 @@ unset_not_there = refl
 unset_in_vec : write no_code [] Unsets (vec_of (int 1 ∷ [])) (Elem (at 0) ∷ []) ≡ misses BadKey
 unfolding no_code vec_of int at
 unset_in_vec = refl
+
+-- no element of a keyset is written, nor anything behind it; a key that finds none has the fault of reading
+keyset_of : List Key → Cell
+keyset_of keys = vec_of (cells.Keyset keys ∷ [])
+
+through_element : write no_code [] (Sets (int 9)) (keyset_of (at 1 ∷ [])) (Elem (at 0) ∷ Elem (at 1) ∷ Elem (at 2) ∷ []) ≡ misses NotContainer
+unfolding no_code keyset_of vec_of int at
+through_element = refl
+
+past_element : write no_code [] (Sets (int 9)) (keyset_of (at 1 ∷ [])) (Elem (at 0) ∷ Elem (at 2) ∷ Elem (at 2) ∷ []) ≡ misses Missing
+unfolding no_code keyset_of vec_of int at
+past_element = refl
+
+added_last : write no_code [] (Sets (int 2)) (keyset_of (at 1 ∷ [])) (Elem (at 0) ∷ Append ∷ []) ≡ Rebased (keyset_of (at 1 ∷ at 2 ∷ []))
+unfolding no_code keyset_of vec_of int at
+added_last = refl
+
+added_again : write no_code [] (Sets (int 1)) (keyset_of (at 1 ∷ [])) (Elem (at 0) ∷ Append ∷ []) ≡ Rebased (keyset_of (at 1 ∷ []))
+unfolding no_code keyset_of vec_of int at
+added_again = refl
+
+added_null : write no_code [] (Sets cells.Null) (keyset_of (at 1 ∷ [])) (Elem (at 0) ∷ Append ∷ []) ≡ misses BadKey
+unfolding no_code keyset_of vec_of at
+added_null = refl
+
+added_to_dict : write no_code [] (Sets (int 1)) (one_under_a 1) (Append ∷ []) ≡ misses BadKey
+unfolding no_code one_under_a int
+added_to_dict = refl
+
+-- null under a null-safe key, and what is behind it
+nothing_read : get no_code [] cells.Null (Nullsafe (codes "p") ∷ Nullsafe (codes "q") ∷ []) ≡ Ok cells.Null
+unfolding no_code
+nothing_read = refl
+
+behind_nothing : get no_code [] cells.Null (Nullsafe (codes "p") ∷ Prop (codes "q") ∷ []) ≡ Err NotContainer
+unfolding no_code
+behind_nothing = refl
+
+-- an exception whose message is itself, and then a vec: a write begins at the last property that is passed
+itself : Heap
+itself = (record { class = 0; props = cells.Obj 0 ∷ [] }) ∷ []
+
+message_set : write no_code itself (Sets (int 7)) (cells.Obj 0) (Prop (codes "message") ∷ Prop (codes "message") ∷ []) ≡ Under 0 0 (int 7)
+unfolding no_code itself int
+message_set = refl
+
+with_vec : Heap
+with_vec = (record { class = 1; props = vec_of (int 1 ∷ []) ∷ [] }) ∷ []
+
+in_message : write no_code with_vec (Sets (int 7)) (vec_of (cells.Obj 0 ∷ [])) (Elem (at 0) ∷ Prop (codes "message") ∷ Append ∷ [])
+    ≡ Under 0 0 (vec_of (int 1 ∷ int 7 ∷ []))
+unfolding no_code with_vec vec_of int at
+in_message = refl
+
+message_unset : write no_code itself Unsets (cells.Obj 0) (Prop (codes "message") ∷ []) ≡ misses BadKey
+unfolding no_code itself
+message_unset = refl
+
+no_property : write no_code itself Unsets (cells.Obj 0) (Prop (codes "other") ∷ []) ≡ misses Missing
+unfolding no_code itself
+no_property = refl
+
+no_name : write no_code itself (Sets (int 7)) (cells.Obj 0) (BadProp ∷ []) ≡ misses BadKey
+unfolding no_code itself int
+no_name = refl
+
+no_elements : write no_code itself (Sets (int 7)) (cells.Obj 0) (Append ∷ []) ≡ misses NotContainer
+unfolding no_code itself int
+no_elements = refl
 
 -- ---- runs
 
