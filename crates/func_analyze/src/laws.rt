@@ -14,8 +14,8 @@ pub fn chain_annotates()
     ensures { ChainAnnotates }
 {}
 
-/// Every repository, annotated after any number of rounds, runs as before with its assertions
-/// tested, and all its claims are true in every run; where no run of it is stuck, no run of the
+/// Every repository of the codes that the flow has rows for, annotated after any number of rounds,
+/// runs as before with its assertions tested, and all its claims are true in every run; where no run of it is stuck, no run of the
 /// annotated one is.
 pub fn annotated_is_faithful()
     ensures { AnnotatedIsFaithful }
@@ -27,14 +27,15 @@ pub fn annotated_is_unique()
     ensures { AnnotatedIsUnique }
 {}
 
-/// The facts after any number of rounds are true in every run of every repository, whether its
-/// assertions are tested or not.
+/// The facts after any number of rounds are true in every run of every repository of the codes that
+/// the flow has rows for, whether its assertions are tested or not.
 pub fn facts_are_true()
     ensures { FactsAreTrue }
 {}
 
 /// In every state of every run each frame, those that wait for a call too, lies in the state that
-/// the least solution has at its position, under the facts after any number of rounds.
+/// the least solution has at its position, under the facts after any number of rounds, where the
+/// flow has rows for all codes.
 pub fn frames_lie()
     ensures { FramesLie }
 {}
