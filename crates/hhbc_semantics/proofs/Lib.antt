@@ -3,12 +3,17 @@ pub mod Growing
 pub mod LocalCodes
 pub mod OnlyLocal
 mod PathExamples
-mod SampleExamples
-pub mod SampleTrue
 pub mod ReadingBack
 pub mod RefusedMembers
+mod SampleExamples
+pub mod SampleTrue
+pub mod ShapeCalls
+pub mod ShapeCodes
+pub mod ShapeEdges
 pub mod ShapeLaws
 pub mod ShapeMembers
+pub mod ShapeOperands
+pub mod ShapeSimple
 pub mod ShapeTables
 pub mod Starting
 pub mod StaysTrue
