@@ -15,6 +15,7 @@ pub mod ShapeMembers
 pub mod ShapeOperands
 pub mod ShapeSimple
 pub mod ShapeTables
+pub mod ShapeTurns
 pub mod Starting
 pub mod StaysTrue
 pub mod Stripped

@@ -62,7 +62,7 @@ does_local puts on fs f w (slots.Uninit ∷ ss) zero name go h k = refl
 does_local puts on fs f w (slots.Cell x ∷ ss) zero name go h k = k x
 does_local puts on fs f w (s ∷ ss) (suc l) name go h k = does_local puts on fs f w ss l name go (omega arith) k
 
-pub length_set : (ss : List Slot) (i : ℕ) (s : Slot) → length (slice_set ss i s) ≡ length ss
+length_set : (ss : List Slot) (i : ℕ) (s : Slot) → length (slice_set ss i s) ≡ length ss
 length_set [] i s = refl
 length_set (a ∷ ss) zero s = refl
 length_set (a ∷ ss) (suc i) s = ap suc (length_set ss i s)

@@ -38,7 +38,7 @@ use Rattle.hhbc_semantics.specs.MemberSequences.{with_base, with_key, with_keys,
 use Rattle.hhbc_semantics.specs.ShapeAnalysis.{AreOfFlavours, AreLive}
 use Rattle.hhbc_semantics.specs.ShapeRows.{Does, Follows, KeepsShape}
 use Rattle.hhbc_semantics.proofs.Growing.{append_grows}
-use Rattle.hhbc_semantics.proofs.ShapeLaws.{length_set}
+use Rattle.hhbc_semantics.proofs.ShapeOperands.{length_set}
 use Rattle.hhbc_semantics.proofs.WritingLaws.{wrote_keeps}
 
 -- ---- the slots that are read by their places
