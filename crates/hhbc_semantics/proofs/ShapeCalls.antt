@@ -129,8 +129,8 @@ module _ (r : Linked) (c : Code) (live : List Bool) (f : Frame) (fs : List Flavo
   fit_function_call S n name known h =
       fit_cells r c live f n [] (C ∷ []) (U ∷ U ∷ []) fs f.stack _ s h
       (λ args rest more t m. fit_uninit r c live f (C ∷ []) (U ∷ []) more rest _ t m
-          (λ rest2 more2 u o. fit_uninit r c live f (C ∷ []) [] more2 rest2 _ u o
-              (λ below left v p. fit_function (function_from 0 S.repo.functions name) (native_named S.natives name) name args left below known v)))
+      (λ rest2 more2 u o. fit_uninit r c live f (C ∷ []) [] more2 rest2 _ u o
+      (λ below left v p. fit_function (function_from 0 S.repo.functions name) (native_named S.natives name) name args left below known v)))
 
   -- methods of a class
   fit_static : (o : Option (ℕ × Body)) (name : List ℕ) (args : List Cell) (left : List Flavour)
@@ -146,8 +146,8 @@ module _ (r : Linked) (c : Code) (live : List Bool) (f : Frame) (fs : List Flavo
   fit_static_call S n name class known h =
       fit_cells r c live f n [] (C ∷ []) (U ∷ U ∷ []) fs f.stack _ s h
       (λ args rest more t m. fit_uninit r c live f (C ∷ []) (U ∷ []) more rest _ t m
-          (λ rest2 more2 u o. fit_uninit r c live f (C ∷ []) [] more2 rest2 _ u o
-              (λ below left v p. fit_static (method_in S.repo (Some class) name) name args (C ∷ left) known)))
+      (λ rest2 more2 u o. fit_uninit r c live f (C ∷ []) [] more2 rest2 _ u o
+      (λ below left v p. fit_static (method_in S.repo (Some class) name) name args (C ∷ left) known)))
 
   refused : (left : List Flavour) (act : World → Turn) (w : World) (name : List ℕ) → Does r c live left f act w (no_method name w)
   refused left act w name = (call.may, append_grows w.heap _)
@@ -169,8 +169,8 @@ module _ (r : Linked) (c : Code) (live : List Bool) (f : Frame) (fs : List Flavo
   method_does S x name args left act w (Some k) (Some m) true is class found known count =
       calls left act w (entered_on (object_number x) m.0 m.1 args) (enters_on r (object_number x) m.0 m.1 args (known m.0 m.1 refl) (count m.0 m.1 refl))
       (λ u grows. is u ∙ ap (λ o. call_on (object_number x) (method_in S.repo o name) name args u) (class_still x w u k grows class)
-          ∙ ap (λ m. call_on (object_number x) m name args u) found
-          ∙ ap (λ t. if t then Calls (entered_on (object_number x) m.0 m.1 args) u else no_method name u) (count m.0 m.1 refl))
+      ∙ ap (λ m. call_on (object_number x) m name args u) found
+      ∙ ap (λ t. if t then Calls (entered_on (object_number x) m.0 m.1 args) u else no_method name u) (count m.0 m.1 refl))
 
   counted : (args : List Cell) (e : Option (ℕ × Body)) → (t : Bool) × ((n : ℕ) (b : Body) → e ≡ Some (n, b) → (length args == b.params) ≡ t)
   counted args None = (true, λ n b e. absurd (cc))
@@ -192,8 +192,8 @@ module _ (r : Linked) (c : Code) (live : List Bool) (f : Frame) (fs : List Flavo
   fit_method_call S n name known h =
       fit_cells r c live f n [] (C ∷ []) (U ∷ C ∷ []) fs f.stack _ s h
       (λ args rest more t m. fit_uninit r c live f (C ∷ []) (C ∷ []) more rest _ t m
-          (λ rest2 more2 u o. fit_cell r c live f (C ∷ []) [] more2 rest2 _ u o
-              (λ x below left v p all. fit_method S x name args (C ∷ left) known)))
+      (λ rest2 more2 u o. fit_cell r c live f (C ∷ []) [] more2 rest2 _ u o
+      (λ x below left v p all. fit_method S x name args (C ∷ left) known)))
 
   -- constructors
   made_or_called : (S : Setting) (x : Cell) (args : List Cell) (left : List Flavour) (below : List Slot) (w : World) (o : Option ℕ) (e : Option (ℕ × Body)) (t : Bool)
@@ -226,8 +226,8 @@ module _ (r : Linked) (c : Code) (live : List Bool) (f : Frame) (fs : List Flavo
   made_or_called S x args left below w (Some k) (Some m) true class found known count h act is =
       calls (C ∷ left) act w (entered_on (object_number x) m.0 m.1 args) (enters_on r (object_number x) m.0 m.1 args (known m.0 m.1 refl) (count m.0 m.1 refl))
       (λ u grows. is u ∙ ap (λ o. construct o (object_number x) (method_in S.repo o constructor) args f below u) (class_still x w u k grows class)
-          ∙ ap (λ m. construct (Some k) (object_number x) m args f below u) found
-          ∙ ap (λ t. if t then Calls (entered_on (object_number x) m.0 m.1 args) u else no_method constructor u) (count m.0 m.1 refl))
+      ∙ ap (λ m. construct (Some k) (object_number x) m args f below u) found
+      ∙ ap (λ t. if t then Calls (entered_on (object_number x) m.0 m.1 args) u else no_method constructor u) (count m.0 m.1 refl))
 
   pub fit_constructor_call : (S : Setting) (n : ℕ)
       → ((o : Option ℕ) (m : ℕ) (b : Body) → method_in S.repo o constructor ≡ Some (m, b) → IsKnown r m b) → HasOnTop (some_cells n ++ U ∷ C ∷ []) fs
@@ -235,11 +235,11 @@ module _ (r : Linked) (c : Code) (live : List Bool) (f : Frame) (fs : List Flavo
   fit_constructor_call S n known h =
       fit_cells r c live f n [] (C ∷ []) (U ∷ C ∷ []) fs f.stack _ s h
       (λ args rest more t m. fit_uninit r c live f (C ∷ []) (C ∷ []) more rest _ t m
-          (λ rest2 more2 u o. fit_cell r c live f (C ∷ []) [] more2 rest2 _ u o
-              (λ x below left v p all. record {
-                does = λ w.
-                    let t = counted args (method_in S.repo (class_named w x) constructor) in
-                    made_or_called S x args left below w (class_named w x) (method_in S.repo (class_named w x) constructor) t.0 refl refl
-                    (λ n b e. known (class_named w x) n b e) t.1 v
-                    (λ w. construct (class_named w x) (object_number x) (method_in S.repo (class_named w x) constructor) args f below w) (λ u. refl);
-              })))
+      (λ rest2 more2 u o. fit_cell r c live f (C ∷ []) [] more2 rest2 _ u o
+      (λ x below left v p all. record {
+        does = λ w.
+            let t = counted args (method_in S.repo (class_named w x) constructor) in
+            made_or_called S x args left below w (class_named w x) (method_in S.repo (class_named w x) constructor) t.0 refl refl
+            (λ n b e. known (class_named w x) n b e) t.1 v
+            (λ w. construct (class_named w x) (object_number x) (method_in S.repo (class_named w x) constructor) args f below w) (λ u. refl);
+      })))

@@ -170,18 +170,22 @@ module _ (r : Linked) (c : Code) (live : List Bool) (f : Frame) (fs : List Flavo
   -- a frame with other locals and iterators at a label, or at the next position
   quiet_to : (left : List Flavour) (g : Frame) (q : ℕ) (stack : List Slot) (w : World) → IsTarget (labels c) q → g.body ≡ f.body
       → length g.locals ≡ length f.locals → AreLive g.iters (live_to (iter_use c) live) → AreOfFlavours stack left → quiet left w (Goes (jump g q stack) w)
-  quiet_to left g q stack w to body locals iters t = record { plain = (
-    record { body = body; locals = locals; stack = t; leads = inr (record { place = to.place; labelled = to.there; iters = iters }) },
-    λ n k h. h,
-  ) }
+  quiet_to left g q stack w to body locals iters t = record {
+    plain = (
+      record { body = body; locals = locals; stack = t; leads = inr (record { place = to.place; labelled = to.there; iters = iters }) },
+      λ n k h. h,
+    );
+  }
 
   quiet_behind : (left : List Flavour) (g : Frame) (stack : List Slot) (w : World) → goes_on c ≡ true → g.body ≡ f.body
       → length g.locals ≡ length f.locals → g.position ≡ f.position → AreLive g.iters (live_next (iter_use c) live) → AreOfFlavours stack left
       → quiet left w (Goes (ahead g stack) w)
-  quiet_behind left g stack w on body locals position iters t = record { plain = (
-    record { body = body; locals = locals; stack = t; leads = inl (record { on = on; position = ap suc position; iters = iters }) },
-    λ n k h. h,
-  ) }
+  quiet_behind left g stack w on body locals position iters t = record {
+    plain = (
+      record { body = body; locals = locals; stack = t; leads = inl (record { on = on; position = ap suc position; iters = iters }) },
+      λ n k h. h,
+    );
+  }
 
   idle_to : iter_use c ≡ None → AreLive f.iters (live_to (iter_use c) live)
   idle_to e = subst (λ u. AreLive f.iters (live_to u live)) (sym e) lives
@@ -206,7 +210,7 @@ module _ (r : Linked) (c : Code) (live : List Bool) (f : Frame) (fs : List Flavo
   fit_jump_where false q on to idle h =
       fit_cell r c live f [] [] fs f.stack _ s h
       (λ x rest more t m all. fit_quiet r c live f more _
-          (λ w. quiet_branch (if truth x then false else true) q more rest w on to idle t))
+      (λ w. quiet_branch (if truth x then false else true) q more rest w on to idle t))
 
   quiet_jump_to : (o : Option ℕ) (targets : List ℕ) (left : List Flavour) (stack : List Slot) (w : World)
       → ((q : ℕ) → IsTarget targets q → IsTarget (labels c) q) → OneOf targets o → iter_use c ≡ None → AreOfFlavours stack left
@@ -219,14 +223,14 @@ module _ (r : Linked) (c : Code) (live : List Bool) (f : Frame) (fs : List Flavo
   fit_switch first a arms among idle h =
       fit_cell r c live f [] [] fs f.stack _ s h
       (λ x rest more t m all. fit_quiet r c live f more _
-          (λ w. quiet_jump_to (int_arm first (a ∷ arms) x) (targets_of (a ∷ arms)) more rest w among (one_of_int first a arms x) idle t))
+      (λ w. quiet_jump_to (int_arm first (a ∷ arms) x) (targets_of (a ∷ arms)) more rest w among (one_of_int first a arms x) idle t))
 
   pub fit_switch_text : (a : Arm) (arms : List Arm) → ((q : ℕ) → IsTarget (targets_of (a ∷ arms)) q → IsTarget (labels c) q) → iter_use c ≡ None
       → HasOnTop (C ∷ []) fs → fits (drop 1 fs) (λ w. switch_text (a ∷ arms) f w)
   fit_switch_text a arms among idle h =
       fit_cell r c live f [] [] fs f.stack _ s h
       (λ x rest more t m all. fit_quiet r c live f more _
-          (λ w. quiet_jump_to (text_arm (a ∷ arms) x) (targets_of (a ∷ arms)) more rest w among (one_of_texts a arms x) idle t))
+      (λ w. quiet_jump_to (text_arm (a ∷ arms) x) (targets_of (a ∷ arms)) more rest w among (one_of_texts a arms x) idle t))
 
   -- ends of a frame
   pub fit_return : HasOnTop (C ∷ []) fs → fits (drop 1 fs) (λ w. with_cell f.stack w (λ x rest. Returns x w))
@@ -243,8 +247,8 @@ module _ (r : Linked) (c : Code) (live : List Bool) (f : Frame) (fs : List Flavo
   fit_throw S may h =
       fit_cell r c live f [] [] fs f.stack _ s h
       (λ x rest more t m all. fit_quiet r c live f more _
-          (λ w. quiet_if r c live f more w (is_instance S w any_exception x) _ _ (record { plain = (may, λ n k g. g) })
-          (quiet_raises r c live f more _ _ w may)))
+      (λ w. quiet_if r c live f more w (is_instance S w any_exception x) _ _ (record { plain = (may, λ n k g. g) })
+      (quiet_raises r c live f more _ _ w may)))
 
   -- iterators
   element_next : (i : ℕ) (ls : Option ℕ × ℕ) (e : Cell × Cell) (es : List (Cell × Cell)) → iter_use c ≡ Some (Begin i)
@@ -292,8 +296,8 @@ module _ (r : Linked) (c : Code) (live : List Bool) (f : Frame) (fs : List Flavo
   fit_iter_init i ls q inside on may to u dead h =
       fit_cell r c live f [] [] fs f.stack _ s h
       (λ x rest more t m all. fit_quiet r c live f more _
-          (λ w. quiet_dead (slice_get f.iters i) more w _ (dead_at f.iters live i lives inside dead)
-          (quiet_begin (elements_of x) i ls q more rest w on may to u dead t)))
+      (λ w. quiet_dead (slice_get f.iters i) more w _ (dead_at f.iters live i lives inside dead)
+      (quiet_begin (elements_of x) i ls q more rest w on may to u dead t)))
 
   quiet_advance : (es : List (Cell × Cell)) (i : ℕ) (ls : Option ℕ × ℕ) (q : ℕ) (w : World) → goes_on c ≡ true → IsTarget (labels c) q
       → iter_use c ≡ Some (Advance i) → quiet fs w (advance es i ls q f w)
@@ -315,4 +319,4 @@ module _ (r : Linked) (c : Code) (live : List Bool) (f : Frame) (fs : List Flavo
       fit_quiet r c live f fs _
       (λ w. quiet_live (slice_get f.iters i) x.0 fs w _ x.1
       (λ es. quiet_behind fs (set_iter f i None) f.stack w on refl refl refl
-          (subst (λ u. AreLive (slice_set f.iters i None) (live_next u live)) (sym u) (set_dead f.iters live i lives)) s))
+      (subst (λ u. AreLive (slice_set f.iters i None) (live_next u live)) (sym u) (set_dead f.iters live i lives)) s))

@@ -82,21 +82,23 @@ module _ (r : Linked) (c : Code) (live : List Bool) (f : Frame) where
   pub quiet_on : IsIdle → (left : List Flavour) (g : Frame) (stack : List Slot) (w v : World) → WorldGrows w v
       → g.body ≡ f.body → length g.locals ≡ length f.locals → g.iters ≡ f.iters → g.position ≡ f.position → AreOfFlavours stack left
       → Quiet left w (Goes (ahead g stack) v)
-  quiet_on i left g stack w v grows body locals iters position s = record { plain = (
-    record {
-      body = body;
-      locals = locals;
-      stack = s;
-      leads = inl (record {
-        on = i.on;
-        position = ap suc position;
-        iters =
-            subst (λ is. AreLive is (live_next (iter_use c) live)) (sym iters)
-            (subst (λ u. AreLive f.iters (live_next u live)) (sym i.idle) i.lives);
-      });
-    },
-    grows,
-  ) }
+  quiet_on i left g stack w v grows body locals iters position s = record {
+    plain = (
+      record {
+        body = body;
+        locals = locals;
+        stack = s;
+        leads = inl (record {
+          on = i.on;
+          position = ap suc position;
+          iters =
+              subst (λ is. AreLive is (live_next (iter_use c) live)) (sym iters)
+              (subst (λ u. AreLive f.iters (live_next u live)) (sym i.idle) i.lives);
+        });
+      },
+      grows,
+    );
+  }
 
   -- the frame itself at its next position
   pub quiet_next : IsIdle → (left : List Flavour) (stack : List Slot) (w : World) → AreOfFlavours stack left → Quiet left w (Goes (ahead f stack) w)
@@ -128,7 +130,7 @@ module _ (r : Linked) (c : Code) (live : List Bool) (f : Frame) where
   -- slots of the stack
   pub fit_cell : (puts takes fs : List Flavour) (stack : List Slot) (go : World → Cell → List Slot → Turn) → AreOfFlavours stack fs → HasOnTop (C ∷ takes) fs
       → ((x : Cell) (rest : List Slot) (more : List Flavour) → AreOfFlavours rest more → HasOnTop takes more → AreOfFlavours stack (C ∷ more)
-          → Fits r c live (puts ++ drop (length takes) more) f (λ w. go w x rest))
+      → Fits r c live (puts ++ drop (length takes) more) f (λ w. go w x rest))
       → Fits r c live (puts ++ drop (length (C ∷ takes)) fs) f (λ w. with_cell stack w (go w))
   fit_cell puts takes [] stack go s h k = absurd h
   fit_cell puts takes (U ∷ fs) stack go s h k = absurd (let e = h.0 in cc)
@@ -138,7 +140,7 @@ module _ (r : Linked) (c : Code) (live : List Bool) (f : Frame) where
 
   pub fit_uninit : (puts takes fs : List Flavour) (stack : List Slot) (go : World → List Slot → Turn) → AreOfFlavours stack fs → HasOnTop (U ∷ takes) fs
       → ((rest : List Slot) (more : List Flavour) → AreOfFlavours rest more → HasOnTop takes more
-          → Fits r c live (puts ++ drop (length takes) more) f (λ w. go w rest))
+      → Fits r c live (puts ++ drop (length takes) more) f (λ w. go w rest))
       → Fits r c live (puts ++ drop (length (U ∷ takes)) fs) f (λ w. with_uninit stack w (go w))
   fit_uninit puts takes [] stack go s h k = absurd h
   fit_uninit puts takes (C ∷ fs) stack go s h k = absurd (let e = h.0 in cc)
@@ -149,7 +151,7 @@ module _ (r : Linked) (c : Code) (live : List Bool) (f : Frame) where
   pub fit_cells : (n : ℕ) (taken : List Cell) (puts takes fs : List Flavour) (stack : List Slot) (go : World → List Cell → List Slot → Turn)
       → AreOfFlavours stack fs → HasOnTop (some_cells n ++ takes) fs
       → ((cs : List Cell) (rest : List Slot) (more : List Flavour) → AreOfFlavours rest more → HasOnTop takes more
-          → Fits r c live (puts ++ drop (length takes) more) f (λ w. go w cs rest))
+      → Fits r c live (puts ++ drop (length takes) more) f (λ w. go w cs rest))
       → Fits r c live (puts ++ drop (length (some_cells n ++ takes)) fs) f (λ w. with_cells n taken stack w (go w))
   fit_cells zero taken puts takes fs stack go s h k = k taken stack fs s h
   fit_cells (suc n) taken puts takes fs stack go s h k =

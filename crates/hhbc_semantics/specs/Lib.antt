@@ -13,12 +13,14 @@ pub mod Limits
 pub mod LocalCodes
 pub mod Locals
 pub mod Machine
+pub mod MemberLaws
 pub mod MemberSequences
 pub mod Objects
 pub mod Operands
 pub mod Operators
 pub mod Outcome
 pub mod PathKeys
+pub mod PathPhases
 pub mod PathReads
 pub mod PathWrites
 pub mod PlainTypes
