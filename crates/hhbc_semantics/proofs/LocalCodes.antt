@@ -41,11 +41,11 @@ use Rattle.hhbc_semantics.proofs.Starting.{starts}
 use Rattle.hhbc_semantics.proofs.Stripped.{same_start}
 use Rattle.hhbc_semantics.proofs.TestedRuns.{tests_only_stop, after_steps}
 
-some_position : (ps : List Position) → ps ≢ [] → 0 < length ps
+pub some_position : (ps : List Position) → ps ≢ [] → 0 < length ps
 some_position [] h = absurd (h refl)
 some_position (p ∷ ps) h = omega arith
 
-same_depth : (ss : List Slot) (fs : List Flavour) → AreOfFlavours ss fs → length ss ≡ length fs
+pub same_depth : (ss : List Slot) (fs : List Flavour) → AreOfFlavours ss fs → length ss ≡ length fs
 same_depth [] [] h = refl
 same_depth [] (x ∷ fs) h = absurd h
 same_depth (s ∷ ss) [] h = absurd h
@@ -55,7 +55,7 @@ none_live : (n : ℕ) → AreLive (replicate n None) (replicate n false)
 none_live zero = tt
 none_live (suc n) = none_live n
 
-entered_locals : (n : ℕ) (b : Body) (args : List Cell) → b.params ≤ length b.locals → length args ≡ b.params → length (entered n b args).locals ≡ length b.locals
+pub entered_locals : (n : ℕ) (b : Body) (args : List Cell) → b.params ≤ length b.locals → length args ≡ b.params → length (entered n b args).locals ≡ length b.locals
 entered_locals n b args l e =
     let a = length-append (map (λ (c : Cell). slots.Cell c) args) (replicate (length b.locals - b.params) slots.Uninit) in
     let m = length-map args (λ (c : Cell). slots.Cell c) in
@@ -72,7 +72,7 @@ one_found tree heap o s t more e rest none =
     by_member false e = cc
 
 -- assertions within the locals and the stack of a frame find their slots
-all_found : (tree : Tree) (heap : Heap) (f : Frame) (count : ℕ) (xs : List Assert) → length f.locals ≡ count → AssertsWithin count xs
+pub all_found : (tree : Tree) (heap : Heap) (f : Frame) (count : ℕ) (xs : List Assert) → length f.locals ≡ count → AssertsWithin count xs
     → reaches xs (length f.stack) ≡ true → test tree heap f xs ≡ None → ⊥
 all_found tree heap f count [] e within r none = cc
 all_found tree heap f count (asserts.Local l t ∷ more) e within r none =

@@ -27,7 +27,7 @@ named_at first (b ∷ bs) name e is = by_name (pointwise nat_eq b.name name) is 
         (0, ap (λ (x : ℕ × Body). x.0) (sym k) ∙ omega arith, ap (λ (x : ℕ × Body). Some x.1) k)
     by_name false is ih = let w = ih is in (suc w.0, w.1 ∙ omega arith, w.2)
 
-function_at : (r : Linked) (name : List ℕ) (e : ℕ × Body) → function_from 0 r.functions name ≡ Some e → body_at r e.0 ≡ Some e.1
+pub function_at : (r : Linked) (name : List ℕ) (e : ℕ × Body) → function_from 0 r.functions name ≡ Some e → body_at r e.0 ≡ Some e.1
 function_at r name e is =
     let w = named_at 0 r.functions name e is in
     let k : e.0 ≡ w.0 = w.1 ∙ omega arith in

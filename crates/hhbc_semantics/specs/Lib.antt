@@ -6,6 +6,7 @@ pub mod Entering
 pub mod Exceptions
 pub mod Form
 pub mod Frames
+pub mod GivenShapes
 pub mod Growth
 pub mod Immediates
 pub mod Iterators
@@ -13,12 +14,14 @@ pub mod Limits
 pub mod LocalCodes
 pub mod Locals
 pub mod Machine
+pub mod MemberLaws
 pub mod MemberSequences
 pub mod Objects
 pub mod Operands
 pub mod Operators
 pub mod Outcome
 pub mod PathKeys
+pub mod PathPhases
 pub mod PathReads
 pub mod PathWrites
 pub mod PlainTypes

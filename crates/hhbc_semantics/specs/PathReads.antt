@@ -68,9 +68,15 @@ bad_elem_step (cells.Dict entries) = Faulty BadKey
 bad_elem_step (cells.Keyset keys) = Faulty BadKey
 bad_elem_step _ = Faulty NotContainer
 
-abbrev pub bad_prop_step : Cell → Step
-bad_prop_step (cells.Obj n) = Faulty BadKey
-bad_prop_step _ = Faulty NotContainer
+-- a number that is no object's is no container
+abbrev pub bad_object_step : Option Object → Step
+bad_object_step None = Faulty NotContainer
+bad_object_step (Some o) = Faulty BadKey
+
+-- by a bad key of a property
+abbrev pub bad_prop_step : Heap → Cell → Step
+bad_prop_step heap (cells.Obj n) = bad_object_step (slice_get heap n)
+bad_prop_step heap _ = Faulty NotContainer
 
 abbrev pub value_at : ℕ → ℕ → Option Cell → Step
 value_at n i None = Faulty Missing
@@ -80,7 +86,6 @@ abbrev pub place_step : ℕ → Object → Option ℕ → Step
 place_step n o None = Faulty Missing
 place_step n o (Some i) = value_at n i (slice_get o.props i)
 
--- a number that is no object's is no container
 abbrev pub object_step : Linked → ℕ → Option Object → List ℕ → Step
 object_step r n None name = Faulty NotContainer
 object_step r n (Some o) name = place_step n o (place_of r o.class name)
@@ -98,7 +103,7 @@ abbrev pub step : Linked → Heap → Cell → PathKey → Step
 step r heap c (Elem k) = elem_step c k
 step r heap c BadElem = bad_elem_step c
 step r heap c (Prop name) = prop_step r heap c name
-step r heap c BadProp = bad_prop_step c
+step r heap c BadProp = bad_prop_step heap c
 step r heap c (Nullsafe name) = nullsafe_step r heap c name
 step r heap c Append = bad_elem_step c
 

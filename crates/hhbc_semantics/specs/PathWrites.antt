@@ -88,7 +88,7 @@ abbrev pub set_last : Linked → Heap → Cell → PathKey → Cell → Wrote
 set_last r heap c (Elem k) v = set_elem c k v
 set_last r heap c BadElem v = set_bad_elem c
 set_last r heap c (Prop name) v = set_prop (prop_step r heap c name) v
-set_last r heap c BadProp v = fails_as (bad_prop_step c)
+set_last r heap c BadProp v = fails_as (bad_prop_step heap c)
 set_last r heap c (Nullsafe name) v = set_prop (nullsafe_step r heap c name) v
 set_last r heap c Append v = append c v
 
@@ -113,7 +113,7 @@ abbrev pub unset_last : Linked → Heap → Cell → PathKey → Wrote
 unset_last r heap c (Elem k) = unset_elem c k
 unset_last r heap c BadElem = fails_as (bad_elem_step c)
 unset_last r heap c (Prop name) = unset_prop (prop_step r heap c name)
-unset_last r heap c BadProp = fails_as (bad_prop_step c)
+unset_last r heap c BadProp = fails_as (bad_prop_step heap c)
 unset_last r heap c (Nullsafe name) = unset_prop (nullsafe_step r heap c name)
 unset_last r heap c Append = fails_as (bad_elem_step c)
 

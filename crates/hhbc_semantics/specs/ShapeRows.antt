@@ -1,6 +1,6 @@
 -- What each code owes to shapes: a frame that has the slots and iterators that its code asks for is left by the turn in a shape
 -- that an edge of the code hands on, and the turn isn't stuck.
-use Rattle.std.specs.Prelude.{◌≡◌, ◌⊎◌, ℕ, suc, Bool, true, nat_le, List, [], ◌∷◌, Option, Some, None, length, replicate, Contains}
+use Rattle.std.specs.Prelude.{◌≡◌, ◌⊎◌, ℕ, suc, Bool, true, nat_le, List, [], ◌∷◌, Some, None, length, replicate, slice_get}
 use Rattle.hhbc_repo.specs.declared.code.Code.{Code}
 use Rattle.hhbc_repo.specs.declared.body.Body.{Body}
 use Rattle.hhbc_repo.specs.Linked.{Linked}
@@ -19,7 +19,7 @@ pub record IsReady (classes : ℕ) (b : Body) (c : Code) (s : Shape) (f : Frame)
   pub locals : length f.locals ≡ length b.locals
   pub stack : AreOfFlavours f.stack s.stack
   pub live : AreLive f.iters s.live
-  pub count : length s.live ≡ b.iters
+  pub count : length f.iters ≡ b.iters
   pub enough : nat_le (length (pops c)) (length s.stack) ≡ true
   pub agrees : agree (pops c) s.stack ≡ true
   pub places : all_within (slots_read c) (length s.stack) ≡ true
@@ -33,7 +33,8 @@ pub record IsNext (c : Code) (live : List Bool) (f g : Frame) : Type 0 where
   pub iters : AreLive g.iters (live_next (iter_use c) live)
 
 pub record IsAtLabel (c : Code) (live : List Bool) (g : Frame) : Type 0 where
-  pub labelled : Contains (labels c) g.position
+  pub place : ℕ
+  pub labelled : slice_get (labels c) place ≡ Some g.position
   pub iters : AreLive g.iters (live_to (iter_use c) live)
 
 pub record Follows (c : Code) (live : List Bool) (left : List Flavour) (f g : Frame) : Type 0 where
