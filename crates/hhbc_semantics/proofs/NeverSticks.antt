@@ -30,18 +30,15 @@ use Rattle.hhbc_semantics.specs.GivenShapes.{HasOperands, IsGiven, HasGiven, by_
 use Rattle.hhbc_semantics.proofs.LocalCodes.{some_position, same_depth, all_found, entered_locals}
 use Rattle.hhbc_semantics.proofs.ShapeTables.{Passes, passes, passes_bare, body_bare, code_of_bare, given_bare}
 use Rattle.hhbc_semantics.proofs.ShapeCalls.{IsKnown}
-use Rattle.hhbc_semantics.proofs.ShapeCodes.{FindsKnown, plain_keeps_shape}
+use Rattle.hhbc_semantics.proofs.ShapeCodes.{FindsKnown}
+use Rattle.hhbc_semantics.proofs.ShapeTurns.{code_keeps_shape}
 use Rattle.hhbc_semantics.proofs.GivenLaws.{Keeps, none_live, given_laws, tables, stands, given_solve}
 use Rattle.hhbc_semantics.proofs.StaysTrue.{rounds_stay_true}
 use Rattle.hhbc_semantics.proofs.Starting.{starts, function_at}
 use Rattle.hhbc_semantics.proofs.Stripped.{same_start}
 use Rattle.hhbc_semantics.proofs.TestedRuns.{tests_only_stop, after_steps}
 
--- what the row of member sequences owes
-abbrev pub MembersKeepShapes : Type 0
-MembersKeepShapes = (S : Setting) (classes : ℕ) (m : MemberSeq) → KeepsShape S.repo classes (kinds.Member m) (λ b f w. member S m b f w)
-
-module _ (members : MembersKeepShapes) (S : Setting) (has : HasOperands S.repo) (types : Types S.repo) where
+module _ (S : Setting) (has : HasOperands S.repo) (types : Types S.repo) where
   abbrev B : Setting
   B = bare_setting S
 
@@ -75,10 +72,6 @@ module _ (members : MembersKeepShapes) (S : Setting) (has : HasOperands S.repo) 
     methods = found_known;
   }
 
-  code_keeps : (c : Code) → KeepsShape B.repo classes c (λ b f w. perform_code B (Some c) b f w)
-  code_keeps (kinds.Plain i) = plain_keeps_shape B known classes i.op i.imms
-  code_keeps (kinds.Member m) = members B classes m
-
   within_bare : (x : Body) (c : Code) → code_within (bounds_of classes x) c ≡ true → code_within (bounds_of classes (bare_body x)) c ≡ true
   within_bare x c e =
       subst (λ n. code_within (record { locals = length x.locals; iters = x.iters; positions = n; classes = classes }) c ≡ true)
@@ -90,7 +83,7 @@ module _ (members : MembersKeepShapes) (S : Setting) (has : HasOperands S.repo) 
         let x = body_bare S.repo n b is in
         subst (λ b. code_within (bounds_of classes b) c ≡ true) x.2
         (within_bare x.0 c (has.codes n x.0 x.1 p c (code_of_bare x.0 p c (subst (λ b. code_at b p ≡ Some c) (sym x.2) at))));
-    shapes = code_keeps;
+    shapes = code_keeps_shape B known classes;
     starts = λ n b is.
         let x = body_bare S.repo n b is in
         subst (λ (b : Body). 0 < length b.positions) x.2
@@ -179,16 +172,16 @@ module _ (members : MembersKeepShapes) (S : Setting) (has : HasOperands S.repo) 
   stopped_given start n c h (inl e) = subst (λ c. FramesAreGiven B.repo c) (sym e) (frames_given (after S false start n) (h n))
   stopped_given start n c h (inr s) = subst (λ c. FramesAreGiven B.repo c) (sym s.is) tt
 
-pub never_sticks : MembersKeepShapes → NeverSticks
-never_sticks members S has types entry args n true why legal is =
-    stopped_result members S has types (start S entry args) n (after S true (start S entry args) n) why (sound members S has types entry args)
+pub never_sticks : NeverSticks
+never_sticks S has types entry args n true why legal is =
+    stopped_result S has types (start S entry args) n (after S true (start S entry args) n) why (sound S has types entry args)
     (tests_only_stop S (start S entry args) n) is
-never_sticks members S has types entry args n false why legal is =
-    plain_result members S has types (after S false (start S entry args) n) why (sound members S has types entry args n) is
+never_sticks S has types entry args n false why legal is =
+    plain_result S has types (after S false (start S entry args) n) why (sound S has types entry args n) is
 
-pub frames_keep_shapes : MembersKeepShapes → FramesKeepShapes
-frames_keep_shapes members S has types entry args true n =
-    stopped_given members S has types (start S entry args) n (after S true (start S entry args) n) (sound members S has types entry args)
+pub frames_keep_shapes : FramesKeepShapes
+frames_keep_shapes S has types entry args true n =
+    stopped_given S has types (start S entry args) n (after S true (start S entry args) n) (sound S has types entry args)
     (tests_only_stop S (start S entry args) n)
-frames_keep_shapes members S has types entry args false n =
-    frames_given members S has types (after S false (start S entry args) n) (sound members S has types entry args n)
+frames_keep_shapes S has types entry args false n =
+    frames_given S has types (after S false (start S entry args) n) (sound S has types entry args n)

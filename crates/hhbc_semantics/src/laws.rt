@@ -3,6 +3,7 @@
 ghost use Rattle.hhbc_semantics.specs.Accepted.{AcceptedHasOperands, BareIsAccepted};
 ghost use Rattle.hhbc_semantics.specs.Truth.{FirstFormNeverSticks, SecondFormNeverSticks, RunsAsBare, BareIsFirstForm};
 ghost use Rattle.hhbc_semantics.specs.ShapeAnalysis.{LocalCodesNeverStick};
+ghost use Rattle.hhbc_semantics.specs.GivenShapes.{NeverSticks, FramesKeepShapes};
 ghost use Rattle.hhbc_semantics.specs.Walks.{TypesWhereItWalks, TypesWhereAssertedWalks};
 
 /// No run of a repository that keeps to its shapes meets an underflow, a wrong flavour or a wrong
@@ -57,4 +58,16 @@ pub fn bare_is_accepted()
 /// repository have; its bodies have their parameters among their locals.
 pub fn accepted_has_operands()
     ensures { AcceptedHasOperands }
+{}
+
+/// No run of a repository that has its operands and keeps to its shapes meets an underflow, a wrong
+/// flavour or a wrong iterator, whatever the natives, and whether its assertions are tested or not.
+pub fn never_sticks()
+    ensures { NeverSticks }
+{}
+
+/// In every state of every run of such a repository each frame has the shape of its position, those
+/// that wait for a call too.
+pub fn frames_keep_shapes()
+    ensures { FramesKeepShapes }
 {}

@@ -7,8 +7,8 @@ mod soundness;
 
 pub use laws::{
     accepted_has_operands, bare_is_accepted, bare_is_first_form, first_form_never_sticks,
-    local_codes_never_stick, runs_as_bare, second_form_never_sticks, types_where_asserted_walks,
-    types_where_it_walks,
+    frames_keep_shapes, local_codes_never_stick, never_sticks, runs_as_bare,
+    second_form_never_sticks, types_where_asserted_walks, types_where_it_walks,
 };
 pub use paths::{
     reads_find_writes, refused_members_change_nothing, writes_in_phases, writes_keep_objects,
