@@ -1,18 +1,23 @@
 -- No run of a repository that has its operands and keeps to its shapes is stuck, and its frames keep their shapes.
-use Rattle.std.proofs.Common.{◌≡◌, ◌⊎◌, inl, inr, ℕ, zero, suc, ◌<◌, ◌≤◌, refl, sym, ◌∙◌, ap, subst, Bool, true, false, Option, Some, None, List, [], ◌∷◌, map, flat_map, slice_get, length}
+use Rattle.std.proofs.Common.{◌≡◌, ◌⊎◌, inl, inr, ℕ, zero, suc, ◌<◌, ◌≤◌, refl, sym, ◌∙◌, ap, subst, Bool, true, false, Option, Some, None, List, [], ◌∷◌, map, flat_map, slice_get, length, ltb-true}
+use Rattle.std.specs.List.{list_all}
+use Rattle.std.proofs.lemmas.Bool.{and_parts}
 use Rattle.std.proofs.lemmas.List.{length-map, length-replicate}
+use Rattle.type_lattice.specs.InRange.{is_proper}
 use Rattle.hack_values.specs.declared.cell.Cell.{Cell}
 use Rattle.hhbc_repo.specs.declared.code.Code.{Code}
 use Rattle.hhbc_repo.specs.declared.code.Code.TheVariants as kinds
 use Rattle.hhbc_repo.specs.declared.code.MemberSeq.{MemberSeq}
 use Rattle.hhbc_repo.specs.declared.body.Body.{Body}
+use Rattle.hhbc_repo.specs.declared.body.Assert.{Assert}
+use Rattle.hhbc_repo.specs.declared.body.Assert.TheVariants as asserts
 use Rattle.hhbc_repo.specs.declared.repo.Class.{Class}
 use Rattle.hhbc_repo.specs.Linked.{Linked}
 use Rattle.hhbc_repo.specs.Bodies.{body_at, code_at, asserts_at, tree_of, class_names}
 use Rattle.hhbc_repo.specs.Bare.{bare, bare_body, bare_position}
 use Rattle.hhbc_repo.specs.LookUps.{method_of}
 use Rattle.hhbc_repo.specs.Shapes.{Shape, given, reaches, Types}
-use Rattle.hhbc_repo.specs.Within.{bounds_of, code_within}
+use Rattle.hhbc_repo.specs.Within.{Bounds, bounds_of, code_within, local_within, assert_within}
 use Rattle.hhbc_semantics.specs.Setting.{Setting, bare_setting}
 use Rattle.hhbc_semantics.specs.Frames.{World, Frame}
 use Rattle.hhbc_semantics.specs.Entering.{function_from, entered}
@@ -24,9 +29,10 @@ use Rattle.hhbc_semantics.specs.Steps.{Config, Running, Ended, place_of, steps_b
 use Rattle.hhbc_semantics.specs.Run.{test, asserts_in, asserts_of, after, start, state_after, result_of}
 use Rattle.hhbc_semantics.specs.Soundness.{Sound, TrueOf, Waiting}
 use Rattle.hhbc_semantics.specs.Tested.{IsStopped}
-use Rattle.hhbc_semantics.specs.ShapeAnalysis.{IsOfShape, entry_shape}
+use Rattle.hhbc_semantics.specs.ShapeAnalysis.{IsOfShape, entry_shape, AssertsWithin}
 use Rattle.hhbc_semantics.specs.ShapeRows.{KeepsShape}
-use Rattle.hhbc_semantics.specs.GivenShapes.{HasOperands, IsGiven, HasGiven, by_given, NeverSticks, AllGiven, FramesAreGiven, FramesKeepShapes}
+use Rattle.hhbc_semantics.specs.Accepted.{HasOperands}
+use Rattle.hhbc_semantics.specs.GivenShapes.{IsGiven, HasGiven, by_given, NeverSticks, AllGiven, FramesAreGiven, FramesKeepShapes}
 use Rattle.hhbc_semantics.proofs.LocalCodes.{some_position, same_depth, all_found, entered_locals}
 use Rattle.hhbc_semantics.proofs.ShapeTables.{Passes, passes, passes_bare, body_bare, code_of_bare, given_bare}
 use Rattle.hhbc_semantics.proofs.ShapeCalls.{IsKnown}
@@ -37,6 +43,15 @@ use Rattle.hhbc_semantics.proofs.StaysTrue.{rounds_stay_true}
 use Rattle.hhbc_semantics.proofs.Starting.{starts, function_at}
 use Rattle.hhbc_semantics.proofs.Stripped.{same_start}
 use Rattle.hhbc_semantics.proofs.TestedRuns.{tests_only_stop, after_steps}
+
+-- assertions within the bounds of a body speak of its locals
+asserts_bound : (b : Bounds) (xs : List Assert) → list_all (assert_within b) xs ≡ true → AssertsWithin b.locals xs
+asserts_bound b [] h = tt
+asserts_bound b (asserts.Local l t ∷ more) h =
+    let x = and_parts (assert_within b (asserts.Local l t)) (list_all (assert_within b) more) h in
+    (ltb-true _ _ (and_parts (local_within b l) (is_proper b.classes t) x.0).0, asserts_bound b more x.1)
+asserts_bound b (asserts.Stack n t ∷ more) h =
+    asserts_bound b more (and_parts (assert_within b (asserts.Stack n t)) (list_all (assert_within b) more) h).1
 
 module _ (S : Setting) (has : HasOperands S.repo) (types : Types S.repo) where
   abbrev B : Setting
@@ -140,7 +155,8 @@ module _ (S : Setting) (has : HasOperands S.repo) (types : Types S.repo) where
       let depth = same_depth f.stack lies.0.stack lies.2.shape.stack in
       let locals : length f.locals ≡ length x.0.locals =
       lies.2.shape.locals here.body here.at ∙ ap (λ (b : Body). length b.locals) (sym x.2) in
-      all_found (tree_of S.repo) w.heap f (length x.0.locals) (asserts_at x.0 f.position) locals (has.claims f.body x.0 x.1 f.position)
+      all_found (tree_of S.repo) w.heap f (length x.0.locals) (asserts_at x.0 f.position) locals
+      (asserts_bound (bounds_of classes x.0) (asserts_at x.0 f.position) (has.claims f.body x.0 x.1 f.position))
       (subst (λ m. reaches (asserts_at x.0 f.position) m ≡ true) (sym (depth ∙ ap (λ (s : Shape). length s.stack) shape))
       (passes x.0 f.position (types.passes f.body x.0 x.1 f.position l)).reach)
       (subst (λ o. test (tree_of S.repo) w.heap f (asserts_in o f.position) ≡ None) x.1 none)

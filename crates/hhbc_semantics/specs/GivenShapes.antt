@@ -1,12 +1,10 @@
 -- In every run of a repository that keeps to its shapes each frame has the shape that its position is given, and none is stuck.
-use Rattle.std.specs.Prelude.{◌≡◌, ◌≤◌, ◌<◌, ℕ, Bool, true, List, [], ◌∷◌, Some, length}
+use Rattle.std.specs.Prelude.{◌≡◌, ◌<◌, ℕ, Bool, List, [], ◌∷◌, Some, length}
 use Rattle.hack_values.specs.declared.cell.Cell.{Cell}
-use Rattle.hhbc_repo.specs.declared.code.Code.{Code}
 use Rattle.hhbc_repo.specs.declared.body.Body.{Body}
 use Rattle.hhbc_repo.specs.Linked.{Linked}
-use Rattle.hhbc_repo.specs.Bodies.{body_at, code_at, asserts_at, class_names}
+use Rattle.hhbc_repo.specs.Bodies.{body_at}
 use Rattle.hhbc_repo.specs.Bare.{bare}
-use Rattle.hhbc_repo.specs.Within.{bounds_of, code_within}
 use Rattle.hhbc_repo.specs.Shapes.{Shape, given, Types}
 use Rattle.hhbc_semantics.specs.Setting.{Setting}
 use Rattle.hhbc_semantics.specs.Frames.{World, Frame}
@@ -15,15 +13,9 @@ use Rattle.hhbc_semantics.specs.Machine.{turn}
 use Rattle.hhbc_semantics.specs.Steps.{Config, Running, Ended}
 use Rattle.hhbc_semantics.specs.Run.{state_after}
 use Rattle.hhbc_semantics.specs.Soundness.{Analysis, MayThrowAt}
-use Rattle.hhbc_semantics.specs.ShapeAnalysis.{IsOfShape, HandsOn, AssertsWithin, entry_shape}
+use Rattle.hhbc_semantics.specs.ShapeAnalysis.{IsOfShape, HandsOn, entry_shape}
+use Rattle.hhbc_semantics.specs.Accepted.{HasOperands}
 use Rattle.hhbc_semantics.specs.Truth.{IsNeverStuck}
-
--- each code has its operands, within the bounds of its body, and parameters and the locals of assertions are among the body's locals
-pub record HasOperands (r : Linked) : Type 0 where
-  pub params : (n : ℕ) (b : Body) → body_at r n ≡ Some b → b.params ≤ length b.locals
-  pub codes : (n : ℕ) (b : Body) → body_at r n ≡ Some b → (p : ℕ) (c : Code) → code_at b p ≡ Some c
-      → code_within (bounds_of (length (class_names r)) b) c ≡ true
-  pub claims : (n : ℕ) (b : Body) → body_at r n ≡ Some b → (p : ℕ) → AssertsWithin (length b.locals) (asserts_at b p)
 
 -- the shape is the one that the position of the body is given
 pub record IsGiven (r : Linked) (n p : ℕ) (s : Shape) : Type 0 where
