@@ -1,13 +1,14 @@
+mod MachineExamples
+mod PathExamples
+mod SampleExamples
 pub mod FirstForm
 pub mod GivenLaws
 pub mod Growing
 pub mod LocalCodes
 pub mod NeverSticks
 pub mod OnlyLocal
-mod PathExamples
 pub mod ReadingBack
 pub mod RefusedMembers
-mod SampleExamples
 pub mod SampleTrue
 pub mod ShapeCalls
 pub mod ShapeCodes

@@ -4,7 +4,6 @@ use Rattle.hack_values.specs.declared.cell.Cell.{Cell}
 use Rattle.hack_values.specs.declared.cell.Cell.TheVariants as cells
 use Rattle.hack_values.specs.declared.cell.Slot.{Slot}
 use Rattle.hack_values.specs.declared.cell.Slot.TheVariants as slots
-use Rattle.hack_values.specs.declared.key.Key.{Key}
 use Rattle.hack_values.specs.declared.operators.OpFault.{OpFault}
 use Rattle.hack_values.specs.declared.operators.BinOp.{BinOp}
 use Rattle.hack_values.specs.declared.operators.UnOp.{UnOp}
@@ -30,7 +29,7 @@ use Rattle.hhbc_semantics.specs.Frames.{World, Frame, Turn, Goes, ahead, push, s
 use Rattle.hhbc_semantics.specs.Operands.{with_cell, with_uninit, or_null}
 use Rattle.hhbc_semantics.specs.Operators.{unary, binary, set_op_local, inc_dec_local, with_int, operator_of}
 use Rattle.hhbc_semantics.specs.Locals.{pop_local, store_local, get_local, get_local_quietly, get_local_below, push_local, unset_local}
-use Rattle.hhbc_semantics.specs.Objects.{make_object, is_instance, instance_of, throw, is_object, lock_object, get_this, check_this, push_found, get_constant, constant_of}
+use Rattle.hhbc_semantics.specs.Objects.{make_object, is_instance, instance_of, is_object, lock_object, get_this, check_this, push_found, get_constant, constant_of}
 use Rattle.hhbc_semantics.specs.Containers.{made, new_vec, new_keyset, with_key_or, key_of, keys_of, add_entry, add_element, append_to, add_new_element}
 use Rattle.hhbc_semantics.specs.Verification.{is_of_kind, test_kind, test_local_kind, verified, verify_local, verify_top, print_text, print}
 use Rattle.hhbc_semantics.specs.ShapeAnalysis.{AreOfFlavours}
