@@ -103,8 +103,7 @@ module _ (S : Setting) (classes : ℕ) (keeps : Keeps S classes) where
       → length g.locals ≡ length f.locals → AreOfFlavours g.stack t.stack → AreLive g.iters t.live → length g.iters ≡ length f.iters → led f s g v
   led_along f s g v h i e t there leads same is locals stack iters count =
       let b = h.given.body in
-      let pass = (keeps.passes f.body b h.given.at f.position h.given.inside).edge i e there in
-      (
+      let pass = (keeps.passes f.body b h.given.at f.position h.given.inside).edge i e there in (
         t,
         record { body = b; at = h.given.at; place = i; edge = e; there = there; leads = leads; shape = is },
         record {

@@ -1,5 +1,6 @@
 -- Runs of small functions, computed by the definitions: operators and what they raise, functions that aren't there, natives.
-use Rattle.std.proofs.Common.{◌≡◌, ℕ, List, [], ◌∷◌, map, None, pos, negsuc, refl, false, codes}
+use Rattle.std.proofs.Common.{◌≡◌, ℕ, List, [], ◌∷◌, None, pos, refl, false, codes}
+use Rattle.std.specs.Int.{w64, int_wrap}
 use Rattle.hack_values.specs.declared.cell.Cell.TheVariants as cells
 use Rattle.hhbc_ops.specs.declared.op.Op.{Op}
 use Rattle.hhbc_ops.specs.declared.op.Op.TheVariants as ops
@@ -25,9 +26,9 @@ main positions = record {
 outcome_of : List Position → ℕ → Outcome
 outcome_of positions n = (run (with_six (main positions)) (codes "main") [] n false).outcome
 
--- the sum goes round
+-- the sum goes round within 64 bits
 greatest_and_one : outcome_of (does ops.Int (imms.Int (pos 9223372036854775807) ∷ []) ∷ does ops.Int (imms.Int (pos 1) ∷ []) ∷ does ops.Add [] ∷ does ops.RetC [] ∷ []) 4
-    ≡ Returned (cells.Int (negsuc 9223372036854775807))
+    ≡ Returned (cells.Int (int_wrap w64 (pos 9223372036854775808)))
 unfolding outcome_of main does
 greatest_and_one = refl
 
