@@ -1,31 +1,25 @@
 -- Given shapes keep the laws of an analysis.
-use Rattle.std.proofs.Common.{◌≡◌, ℕ, zero, suc, ◌⊎◌, inl, inr, ◌<◌, ◌≤◌, refl, sym, ◌∙◌, ap, subst, Bool, true, false, nat_le, Option, Some, None, option_map, List, [], ◌∷◌, ◌++◌, map, drop, replicate, slice_get, slice_set, length, arith}
+use Rattle.std.proofs.Common.{◌≡◌, ℕ, zero, suc, ◌⊎◌, inl, inr, ◌<◌, refl, sym, ◌∙◌, ap, subst, Bool, true, false, nat_le, Option, Some, None, option_map, List, [], ◌∷◌, ◌++◌, map, drop, replicate, slice_get, slice_set, length}
 use Rattle.std.proofs.lemmas.List.{length-replicate}
 use Rattle.hack_values.specs.declared.cell.Cell.{Cell}
 use Rattle.hack_values.specs.declared.cell.Slot.{Slot}
 use Rattle.hack_values.specs.declared.cell.Slot.TheVariants as slots
 use Rattle.hhbc_ops.specs.declared.words.Flavour.{Flavour}
-use Rattle.hhbc_ops.specs.declared.words.Flavour.TheVariants.{C, U}
+use Rattle.hhbc_ops.specs.declared.words.Flavour.TheVariants.{C}
 use Rattle.hhbc_repo.specs.declared.code.Code.{Code}
-use Rattle.hhbc_repo.specs.declared.code.Code.TheVariants as kinds
-use Rattle.hhbc_repo.specs.declared.code.MemberSeq.{MemberSeq}
 use Rattle.hhbc_repo.specs.declared.body.Body.{Body}
-use Rattle.hhbc_repo.specs.Linked.{Linked}
 use Rattle.hhbc_repo.specs.Bodies.{bodies, body_at, code_at}
 use Rattle.hhbc_repo.specs.Codes.{IterUse, Begin, Advance, Free, pops, pushes, slots_read, iter_use, throws, goes_on, labels}
 use Rattle.hhbc_repo.specs.Edges.{Edge, Next, To, Handler, target, edges, next_edges, handler_edges, handler_of}
-use Rattle.hhbc_repo.specs.Shapes.{Shape, AllPass, agree, after, behind, at_label, hands_on, caught_shape, empty_shape, given, shapes, stack_left, pops_of, slots_read_of, iter_use_of, all_within, all_cells, iter_checks, live_next, live_to}
+use Rattle.hhbc_repo.specs.Shapes.{Shape, AllPass, agree, after, behind, at_label, hands_on, caught_shape, given, shapes, stack_left, pops_of, slots_read_of, iter_use_of, all_within, all_cells, iter_checks, live_next, live_to}
 use Rattle.hhbc_repo.specs.Within.{bounds_of, code_within}
 use Rattle.hhbc_repo.proofs.Elements.{slice_last, before_last, from_map, to_map}
 use Rattle.hhbc_semantics.specs.Setting.{Setting}
 use Rattle.hhbc_semantics.specs.Frames.{World, Frame, Turn, Goes, Calls, Returns, Raises, Ends, Fails, Sticks}
-use Rattle.hhbc_semantics.specs.Growth.{WorldGrows}
 use Rattle.hhbc_semantics.specs.Machine.{turn, turn_in, perform_code}
-use Rattle.hhbc_semantics.specs.MemberSequences.{member}
-use Rattle.hhbc_semantics.specs.Rows.{perform}
 use Rattle.hhbc_semantics.specs.Steps.{after_call, call_pops, pop_count, handler_in}
 use Rattle.hhbc_semantics.specs.Soundness.{MayThrowAt, Led, GoesWith, Laws, IsRoundBy, At}
-use Rattle.hhbc_semantics.specs.ShapeAnalysis.{AreOfFlavours, AreLive, IsOfShape, HandsOn, entry_shape}
+use Rattle.hhbc_semantics.specs.ShapeAnalysis.{AreOfFlavours, AreLive, HandsOn, entry_shape}
 use Rattle.hhbc_semantics.specs.ShapeRows.{Does, Fits, IsReady, KeepsShape, IsNext, IsAtLabel, IsEntered}
 use Rattle.hhbc_semantics.specs.GivenShapes.{IsGiven, HasGiven, by_given}
 use Rattle.hhbc_semantics.proofs.Walking.{there, code_is}
@@ -109,8 +103,7 @@ module _ (S : Setting) (classes : ℕ) (keeps : Keeps S classes) where
       → length g.locals ≡ length f.locals → AreOfFlavours g.stack t.stack → AreLive g.iters t.live → length g.iters ≡ length f.iters → led f s g v
   led_along f s g v h i e t there leads same is locals stack iters count =
       let b = h.given.body in
-      let pass = (keeps.passes f.body b h.given.at f.position h.given.inside).edge i e there in
-      (
+      let pass = (keeps.passes f.body b h.given.at f.position h.given.inside).edge i e there in (
         t,
         record { body = b; at = h.given.at; place = i; edge = e; there = there; leads = leads; shape = is },
         record {

@@ -3,6 +3,7 @@ pub mod FirstForm
 pub mod GivenLaws
 pub mod Growing
 pub mod LocalCodes
+mod MachineExamples
 pub mod NeverSticks
 pub mod OnlyLocal
 pub mod Operands

@@ -6,39 +6,36 @@ use Rattle.std.proofs.lemmas.List.{length-map, length-replicate}
 use Rattle.type_lattice.specs.InRange.{is_proper}
 use Rattle.hack_values.specs.declared.cell.Cell.{Cell}
 use Rattle.hhbc_repo.specs.declared.code.Code.{Code}
-use Rattle.hhbc_repo.specs.declared.code.Code.TheVariants as kinds
-use Rattle.hhbc_repo.specs.declared.code.MemberSeq.{MemberSeq}
 use Rattle.hhbc_repo.specs.declared.body.Body.{Body}
 use Rattle.hhbc_repo.specs.declared.body.Assert.{Assert}
 use Rattle.hhbc_repo.specs.declared.body.Assert.TheVariants as asserts
 use Rattle.hhbc_repo.specs.declared.repo.Class.{Class}
 use Rattle.hhbc_repo.specs.Linked.{Linked}
 use Rattle.hhbc_repo.specs.Bodies.{body_at, code_at, asserts_at, tree_of, class_names}
-use Rattle.hhbc_repo.specs.Bare.{bare, bare_body, bare_position}
+use Rattle.hhbc_repo.specs.Bare.{bare_body, bare_position}
 use Rattle.hhbc_repo.specs.LookUps.{method_of}
 use Rattle.hhbc_repo.specs.Shapes.{Shape, given, reaches, Types}
 use Rattle.hhbc_repo.specs.Within.{Bounds, bounds_of, code_within, local_within, assert_within}
 use Rattle.hhbc_semantics.specs.Setting.{Setting, bare_setting}
 use Rattle.hhbc_semantics.specs.Frames.{World, Frame}
-use Rattle.hhbc_semantics.specs.Entering.{function_from, entered}
+use Rattle.hhbc_semantics.specs.Entering.{entered}
 use Rattle.hhbc_semantics.specs.CallTurns.{numbered, body_of_method, method_in}
-use Rattle.hhbc_semantics.specs.MemberSequences.{member}
-use Rattle.hhbc_semantics.specs.Machine.{turn, perform_code}
+use Rattle.hhbc_semantics.specs.Machine.{turn}
 use Rattle.hhbc_semantics.specs.Outcome.{Outcome, Why, Underflow, Stuck, AssertFalse}
 use Rattle.hhbc_semantics.specs.Steps.{Config, Running, Ended, place_of, steps_by}
-use Rattle.hhbc_semantics.specs.Run.{test, asserts_in, asserts_of, after, start, state_after, result_of}
+use Rattle.hhbc_semantics.specs.Run.{test, asserts_in, asserts_of, after, start, result_of}
 use Rattle.hhbc_semantics.specs.Soundness.{Sound, TrueOf, Waiting}
 use Rattle.hhbc_semantics.specs.Tested.{IsStopped}
 use Rattle.hhbc_semantics.specs.ShapeAnalysis.{IsOfShape, entry_shape, AssertsWithin}
 use Rattle.hhbc_semantics.specs.ShapeRows.{KeepsShape}
 use Rattle.hhbc_semantics.specs.Accepted.{HasOperands}
-use Rattle.hhbc_semantics.specs.GivenShapes.{IsGiven, HasGiven, by_given, NeverSticks, AllGiven, FramesAreGiven, FramesKeepShapes}
+use Rattle.hhbc_semantics.specs.GivenShapes.{HasGiven, by_given, NeverSticks, AllGiven, FramesAreGiven, FramesKeepShapes}
 use Rattle.hhbc_semantics.proofs.LocalCodes.{some_position, same_depth, all_found, entered_locals}
 use Rattle.hhbc_semantics.proofs.ShapeTables.{Passes, passes, passes_bare, body_bare, code_of_bare, given_bare}
 use Rattle.hhbc_semantics.proofs.ShapeCalls.{IsKnown}
 use Rattle.hhbc_semantics.proofs.ShapeCodes.{FindsKnown}
 use Rattle.hhbc_semantics.proofs.ShapeTurns.{code_keeps_shape}
-use Rattle.hhbc_semantics.proofs.GivenLaws.{Keeps, none_live, given_laws, tables, stands, given_solve}
+use Rattle.hhbc_semantics.proofs.GivenLaws.{Keeps, none_live, given_laws, tables, given_solve}
 use Rattle.hhbc_semantics.proofs.StaysTrue.{rounds_stay_true}
 use Rattle.hhbc_semantics.proofs.Starting.{starts, function_at}
 use Rattle.hhbc_semantics.proofs.Stripped.{same_start}

@@ -13,14 +13,13 @@ use Rattle.hhbc_repo.specs.declared.code.Code.{Code}
 use Rattle.hhbc_repo.specs.declared.body.Body.{Body}
 use Rattle.hhbc_repo.specs.Linked.{Linked}
 use Rattle.hhbc_repo.specs.Bodies.{body_at}
-use Rattle.hhbc_repo.specs.LookUps.{method_of}
 use Rattle.hhbc_repo.specs.Codes.{some_cells, pushes, iter_use, goes_on, throws}
 use Rattle.hhbc_semantics.specs.Setting.{Setting, NativeRow}
 use Rattle.hhbc_semantics.specs.Outcome.{Undefined}
 use Rattle.hhbc_semantics.specs.Frames.{World, Frame, Turn, Goes, Calls, ahead}
 use Rattle.hhbc_semantics.specs.Growth.{WorldGrows}
 use Rattle.hhbc_semantics.specs.Entering.{function_from, entered, entered_on}
-use Rattle.hhbc_semantics.specs.CallTurns.{no_method, native_named, takes, answered, call_native, call_function, function_call, numbered, body_of_method, method_in, call_static, static_call, class_named, object_number, call_on, method_call, constructor, construct, constructor_call}
+use Rattle.hhbc_semantics.specs.CallTurns.{no_method, native_named, takes, answered, call_native, call_function, function_call, method_in, call_static, static_call, class_named, object_number, call_on, method_call, constructor, construct, constructor_call}
 use Rattle.hhbc_semantics.specs.Soundness.{CallsBody}
 use Rattle.hhbc_semantics.specs.ShapeAnalysis.{AreOfFlavours}
 use Rattle.hhbc_semantics.specs.ShapeRows.{Does, Fits, IsEntered}

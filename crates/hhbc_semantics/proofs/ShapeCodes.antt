@@ -1,7 +1,6 @@
 -- Each instruction leaves a frame that has its slots in a shape that an edge hands on.
-use Rattle.std.proofs.Common.{◌≡◌, ℕ, ◌<◌, ◌≤◌, refl, sym, ◌∙◌, ap, subst, Bool, true, false, not, ◌&&◌, drop, nat_lt, nat_le, ltb-true, leb-true, Option, Some, None, List, [], ◌∷◌, ◌++◌, map, flat_map, length, slice_get, Ok, Err}
+use Rattle.std.proofs.Common.{◌≡◌, ℕ, ◌<◌, refl, sym, subst, true, false, ◌&&◌, drop, nat_lt, ltb-true, leb-true, Option, Some, List, [], ◌∷◌, length}
 use Rattle.std.proofs.lemmas.Bool.{and_parts}
-use Rattle.hack_values.specs.declared.cell.Cell.{Cell}
 use Rattle.hack_values.specs.declared.cell.Cell.TheVariants as cells
 use Rattle.hack_values.specs.declared.cell.Slot.TheVariants as slots
 use Rattle.hack_values.specs.declared.operators.BinOp.TheVariants as binary_ops
@@ -10,8 +9,7 @@ use Rattle.hhbc_ops.specs.declared.op.Op.{Op}
 use Rattle.hhbc_ops.specs.declared.op.Op.TheVariants as ops
 use Rattle.hhbc_ops.specs.declared.words.ImmKind.{ImmKind}
 use Rattle.hhbc_ops.specs.declared.words.ImmKind.TheVariants as imm_kinds
-use Rattle.hhbc_ops.specs.declared.words.Flavour.{Flavour}
-use Rattle.hhbc_ops.specs.declared.words.Flavour.TheVariants.{C, U}
+use Rattle.hhbc_ops.specs.declared.words.Flavour.TheVariants.{U}
 use Rattle.hhbc_ops.specs.Ops.{kinds_of}
 use Rattle.hhbc_repo.specs.declared.code.Arm.{Arm}
 use Rattle.hhbc_repo.specs.declared.code.Imm.{Imm}
@@ -27,7 +25,7 @@ use Rattle.type_lattice.specs.InRange.{where_there}
 use Rattle.hhbc_repo.proofs.Elements.{before_last}
 use Rattle.hhbc_semantics.specs.Setting.{Setting}
 use Rattle.hhbc_semantics.specs.Outcome.{User}
-use Rattle.hhbc_semantics.specs.Frames.{World, Frame, Turn, Goes}
+use Rattle.hhbc_semantics.specs.Frames.{Frame}
 use Rattle.hhbc_semantics.specs.Entering.{function_from}
 use Rattle.hhbc_semantics.specs.CallTurns.{method_in, constructor}
 use Rattle.hhbc_semantics.specs.Immediates.{text_in, name_in, class_in, target_in, arms_in, set_op_in, inc_dec_in, is_type_in, constraint_in, iter_locals_in}
@@ -35,11 +33,11 @@ use Rattle.hhbc_semantics.specs.Objects.{this_or_null}
 use Rattle.hhbc_semantics.specs.Branches.{switch, switch_text}
 use Rattle.hhbc_semantics.specs.Rows.{perform}
 use Rattle.hhbc_semantics.specs.ShapeAnalysis.{AreOfFlavours, AreLive}
-use Rattle.hhbc_semantics.specs.ShapeRows.{Fits, IsReady, KeepsShape}
-use Rattle.hhbc_semantics.proofs.ShapeOperands.{HasOnTop, on_top, IsIdle, fit_next}
+use Rattle.hhbc_semantics.specs.ShapeRows.{Fits, KeepsShape}
+use Rattle.hhbc_semantics.proofs.ShapeOperands.{HasOnTop, on_top, fit_next}
 use Rattle.hhbc_semantics.proofs.ShapeSimple.{fit_push, fit_pop, fit_pop_uninit, fit_dup, fit_unary, fit_binary, fit_set_op, fit_inc_dec, fit_pop_local, fit_store_local, fit_get_local, fit_get_quietly, fit_get_below, fit_push_local, fit_unset_local, fit_test_kind, fit_test_local_kind, fit_verify_local, fit_verify_top, fit_print, fit_make_object, fit_instance_of, fit_lock_object, fit_get_this, fit_check_this, fit_get_constant, fit_new_vec, fit_new_keyset, fit_add_element, fit_add_new_element}
 use Rattle.hhbc_semantics.proofs.ShapeEdges.{IsTarget, targets_of, fit_jump, fit_jump_where, fit_switch, fit_switch_text, fit_return, fit_fatal, fit_throw, fit_iter_init, fit_iter_next, fit_iter_free}
-use Rattle.hhbc_semantics.proofs.ShapeCalls.{IsKnown, IsCall, fit_function_call, fit_static_call, fit_method_call, fit_constructor_call}
+use Rattle.hhbc_semantics.proofs.ShapeCalls.{IsKnown, fit_function_call, fit_static_call, fit_method_call, fit_constructor_call}
 
 -- operands that are within the bounds of a body
 local_inside : (B : Bounds) (ks : List ImmKind) (is : List Imm) → operands_within B (imm_kinds.Local ∷ ks) is ≡ true → local_of is < B.locals

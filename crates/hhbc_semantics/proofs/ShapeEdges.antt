@@ -1,16 +1,16 @@
 -- Shapes behind the codes that go to labels, that move iterators, and that end a frame.
-use Rattle.std.proofs.Common.{◌≡◌, inl, inr, ℕ, zero, suc, ◌<◌, refl, sym, ◌∙◌, ap, subst, Bool, true, false, not, Option, Some, None, List, [], ◌∷◌, ◌++◌, map, drop, slice_get, slice_set, length, pos, negsuc, ℤ, ◌-ℤ◌, if◌then◌else◌, arith}
+use Rattle.std.proofs.Common.{◌≡◌, inl, inr, ℕ, zero, suc, ◌<◌, refl, sym, ◌∙◌, ap, subst, Bool, true, false, not, Option, Some, None, List, [], ◌∷◌, map, drop, slice_get, slice_set, length, pos, negsuc, ℤ, ◌-ℤ◌, if◌then◌else◌, arith}
 use Rattle.hack_values.specs.declared.cell.Cell.{Cell}
 use Rattle.hack_values.specs.declared.cell.Cell.TheVariants as cells
 use Rattle.hack_values.specs.declared.cell.Slot.{Slot}
 use Rattle.hack_values.specs.declared.cell.Slot.TheVariants as slots
 use Rattle.hack_values.specs.Casts.{truth}
 use Rattle.hhbc_ops.specs.declared.words.Flavour.{Flavour}
-use Rattle.hhbc_ops.specs.declared.words.Flavour.TheVariants.{C, U}
+use Rattle.hhbc_ops.specs.declared.words.Flavour.TheVariants.{C}
 use Rattle.hhbc_repo.specs.declared.code.Code.{Code}
 use Rattle.hhbc_repo.specs.declared.code.Arm.{Arm}
 use Rattle.hhbc_repo.specs.Linked.{Linked}
-use Rattle.hhbc_repo.specs.Codes.{IterUse, Begin, Advance, Free, throws, goes_on, iter_use, labels}
+use Rattle.hhbc_repo.specs.Codes.{Begin, Advance, Free, throws, goes_on, iter_use, labels}
 use Rattle.hhbc_repo.specs.Shapes.{is_live, live_next, live_to}
 use Rattle.hhbc_semantics.specs.Setting.{Setting}
 use Rattle.hhbc_semantics.specs.Outcome.{FatalName}
@@ -22,7 +22,7 @@ use Rattle.hhbc_semantics.specs.Exceptions.{any_exception}
 use Rattle.hhbc_semantics.specs.Iterators.{elements_of, set_iter, set_key, at_element, with_dead, with_live, begin, iter_init, advance, iter_next, iter_free}
 use Rattle.hhbc_semantics.specs.ShapeAnalysis.{AreOfFlavours, AreLive}
 use Rattle.hhbc_semantics.specs.ShapeRows.{Fits}
-use Rattle.hhbc_semantics.proofs.ShapeOperands.{HasOnTop, length_set, IsIdle, Quiet, fit_quiet, quiet_raises, quiet_fails, quiet_next, quiet_if, fit_cell}
+use Rattle.hhbc_semantics.proofs.ShapeOperands.{HasOnTop, length_set, Quiet, fit_quiet, quiet_raises, quiet_fails, quiet_if, fit_cell}
 
 -- the target of an arm
 pub record IsTarget (targets : List ℕ) (q : ℕ) : Type 0 where

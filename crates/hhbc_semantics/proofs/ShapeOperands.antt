@@ -1,6 +1,5 @@
 -- What codes take from a frame that has it: one lemma for each way to take it.
-use Rattle.std.proofs.Common.{◌≡◌, ◌⊎◌, inl, inr, ℕ, zero, suc, ◌<◌, ◌≤◌, refl, sym, ◌∙◌, ap, subst, Bool, true, false, nat_le, Option, Some, None, List, [], ◌∷◌, ◌++◌, drop, slice_get, slice_set, length, Result, Ok, Err, if◌then◌else◌, arith}
-use Rattle.std.proofs.lemmas.Bool.{and_parts}
+use Rattle.std.proofs.Common.{◌≡◌, inl, ℕ, zero, suc, ◌<◌, ◌≤◌, refl, sym, ap, subst, Bool, true, false, Option, Some, None, List, [], ◌∷◌, ◌++◌, drop, slice_get, slice_set, length, Result, Ok, Err, if◌then◌else◌, arith}
 use Rattle.hack_values.specs.declared.cell.Cell.{Cell}
 use Rattle.hack_values.specs.declared.cell.Slot.{Slot}
 use Rattle.hack_values.specs.declared.cell.Slot.TheVariants as slots
@@ -11,8 +10,8 @@ use Rattle.hhbc_ops.specs.declared.words.Flavour.TheVariants.{C, U}
 use Rattle.hhbc_repo.specs.declared.code.Code.{Code}
 use Rattle.hhbc_repo.specs.declared.body.Body.{Body}
 use Rattle.hhbc_repo.specs.Linked.{Linked}
-use Rattle.hhbc_repo.specs.Codes.{throws, goes_on, iter_use, labels, some_cells}
-use Rattle.hhbc_repo.specs.Shapes.{agree, live_next, live_to}
+use Rattle.hhbc_repo.specs.Codes.{throws, goes_on, iter_use, some_cells}
+use Rattle.hhbc_repo.specs.Shapes.{agree, live_next}
 use Rattle.hhbc_semantics.specs.Outcome.{FatalName}
 use Rattle.hhbc_semantics.specs.Frames.{World, Frame, Turn, Goes, Calls, Returns, Raises, Ends, Fails, Sticks, ahead}
 use Rattle.hhbc_semantics.specs.Growth.{WorldGrows}

@@ -4,7 +4,6 @@ use Rattle.hack_values.specs.declared.cell.Cell.{Cell}
 use Rattle.hack_values.specs.declared.cell.Cell.TheVariants as cells
 use Rattle.hack_values.specs.declared.cell.Slot.{Slot}
 use Rattle.hack_values.specs.declared.cell.Slot.TheVariants as slots
-use Rattle.hack_values.specs.declared.key.Key.{Key}
 use Rattle.hack_values.specs.declared.operators.OpFault.{OpFault}
 use Rattle.hack_values.specs.declared.operators.BinOp.{BinOp}
 use Rattle.hack_values.specs.declared.operators.UnOp.{UnOp}
@@ -30,7 +29,7 @@ use Rattle.hhbc_semantics.specs.Frames.{World, Frame, Turn, Goes, ahead, push, s
 use Rattle.hhbc_semantics.specs.Operands.{with_cell, with_uninit, or_null}
 use Rattle.hhbc_semantics.specs.Operators.{unary, binary, set_op_local, inc_dec_local, with_int, operator_of}
 use Rattle.hhbc_semantics.specs.Locals.{pop_local, store_local, get_local, get_local_quietly, get_local_below, push_local, unset_local}
-use Rattle.hhbc_semantics.specs.Objects.{make_object, is_instance, instance_of, throw, is_object, lock_object, get_this, check_this, push_found, get_constant, constant_of}
+use Rattle.hhbc_semantics.specs.Objects.{make_object, is_instance, instance_of, is_object, lock_object, get_this, check_this, push_found, get_constant, constant_of}
 use Rattle.hhbc_semantics.specs.Containers.{made, new_vec, new_keyset, with_key_or, key_of, keys_of, add_entry, add_element, append_to, add_new_element}
 use Rattle.hhbc_semantics.specs.Verification.{is_of_kind, test_kind, test_local_kind, verified, verify_local, verify_top, print_text, print}
 use Rattle.hhbc_semantics.specs.ShapeAnalysis.{AreOfFlavours}
@@ -70,26 +69,26 @@ module _ (r : Linked) (c : Code) (live : List Bool) (f : Frame) (fs : List Flavo
   fit_unary op may h =
       fit_cell r c live f (C ∷ []) [] fs f.stack _ s h
       (λ x rest more t m all. fit_quiet r c live f (C ∷ more) _
-          (λ w. quiet_answer r c live f (C ∷ more) w (op1 op x) _ (may x)
-          (λ y. quiet_next r c live f i (C ∷ more) (slots.Cell y ∷ rest) w (tt, t))))
+      (λ w. quiet_answer r c live f (C ∷ more) w (op1 op x) _ (may x)
+      (λ y. quiet_next r c live f i (C ∷ more) (slots.Cell y ∷ rest) w (tt, t))))
 
   pub fit_binary : (op : BinOp) → ((x y : Cell) (fault : OpFault) → op2 op x y ≡ Err fault → throws c ≡ true) → HasOnTop (C ∷ C ∷ []) fs
       → fits (C ∷ drop 2 fs) (λ w. binary op f w)
   fit_binary op may h =
       fit_cell r c live f (C ∷ []) (C ∷ []) fs f.stack _ s h
       (λ y rest more t m all. fit_cell r c live f (C ∷ []) [] more rest _ t m
-          (λ x below deep u n al. fit_quiet r c live f (C ∷ deep) _
-              (λ w. quiet_answer r c live f (C ∷ deep) w (op2 op x y) _ (may x y)
-              (λ z. quiet_next r c live f i (C ∷ deep) (slots.Cell z ∷ below) w (tt, u)))))
+      (λ x below deep u n al. fit_quiet r c live f (C ∷ deep) _
+      (λ w. quiet_answer r c live f (C ∷ deep) w (op2 op x y) _ (may x y)
+      (λ z. quiet_next r c live f i (C ∷ deep) (slots.Cell z ∷ below) w (tt, u)))))
 
   pub fit_set_op : (op : SetOpOp) (l : ℕ) (b : Body) → l < length f.locals → throws c ≡ true → HasOnTop (C ∷ []) fs
       → fits (C ∷ drop 1 fs) (λ w. set_op_local op l b f w)
   fit_set_op op l b inside may h =
       fit_local r c live f (C ∷ drop 1 fs) b l _ inside may
       (λ old. fit_cell r c live f (C ∷ []) [] fs f.stack _ s h
-          (λ x rest more t m all. fit_quiet r c live f (C ∷ more) _
-              (λ w. quiet_answer r c live f (C ∷ more) w (op2 (operator_of op) old x) _ (λ fault e. may)
-              (λ y. quiet_set (C ∷ more) l (slots.Cell y) (slots.Cell y ∷ rest) w (tt, t)))))
+      (λ x rest more t m all. fit_quiet r c live f (C ∷ more) _
+      (λ w. quiet_answer r c live f (C ∷ more) w (op2 (operator_of op) old x) _ (λ fault e. may)
+      (λ y. quiet_set (C ∷ more) l (slots.Cell y) (slots.Cell y ∷ rest) w (tt, t)))))
 
   quiet_int : (left : List Flavour) (w : World) (x : Cell) (go : ℤ → Turn) → throws c ≡ true → ((n : ℤ) → quiet left w (go n)) → quiet left w (with_int x w go)
   quiet_int left w (cells.Int n) go may h = h n
@@ -122,7 +121,7 @@ module _ (r : Linked) (c : Code) (live : List Bool) (f : Frame) (fs : List Flavo
   fit_get_below l b inside may h =
       fit_local r c live f (C ∷ C ∷ drop 1 fs) b l _ inside may
       (λ x. fit_cell r c live f (C ∷ C ∷ []) [] fs f.stack _ s h
-          (λ top rest more t m all. fit_next r c live f i (C ∷ C ∷ more) (slots.Cell top ∷ slots.Cell x ∷ rest) (tt, (tt, t))))
+      (λ top rest more t m all. fit_next r c live f i (C ∷ C ∷ more) (slots.Cell top ∷ slots.Cell x ∷ rest) (tt, (tt, t))))
 
   pub fit_push_local : (l : ℕ) (b : Body) → l < length f.locals → throws c ≡ true → fits (C ∷ fs) (λ w. push_local l b f w)
   fit_push_local l b inside may =
@@ -176,14 +175,14 @@ module _ (r : Linked) (c : Code) (live : List Bool) (f : Frame) (fs : List Flavo
   fit_instance_of S n h =
       fit_cell r c live f (C ∷ []) [] fs f.stack _ s h
       (λ x rest more t m all. fit_quiet r c live f (C ∷ more) _
-          (λ w. quiet_next r c live f i (C ∷ more) (slots.Cell (cells.Bool (is_instance S w n x)) ∷ rest) w (tt, t)))
+      (λ w. quiet_next r c live f i (C ∷ more) (slots.Cell (cells.Bool (is_instance S w n x)) ∷ rest) w (tt, t)))
 
   pub fit_lock_object : throws c ≡ true → HasOnTop (C ∷ []) fs → fits (C ∷ drop 1 fs) (λ w. lock_object f w)
   fit_lock_object may h =
       fit_cell r c live f (C ∷ []) [] fs f.stack _ s h
       (λ x rest more t m all. fit_quiet r c live f (C ∷ more) _
-          (λ w. quiet_if r c live f (C ∷ more) w (is_object w x) _ _ (quiet_next r c live f i (C ∷ more) f.stack w all)
-          (quiet_raises r c live f (C ∷ more) _ _ w may)))
+      (λ w. quiet_if r c live f (C ∷ more) w (is_object w x) _ _ (quiet_next r c live f i (C ∷ more) f.stack w all)
+      (quiet_raises r c live f (C ∷ more) _ _ w may)))
 
   pub fit_get_this : throws c ≡ true → fits (C ∷ fs) (λ w. get_this f w)
   fit_get_this may =
@@ -222,7 +221,7 @@ module _ (r : Linked) (c : Code) (live : List Bool) (f : Frame) (fs : List Flavo
   fit_new_keyset n may h =
       fit_cells r c live f n [] (C ∷ []) [] fs f.stack _ s h
       (λ xs rest more t m. fit_quiet r c live f (C ∷ more) _
-          (λ w. quiet_key (C ∷ more) w (keys_of xs) _ may (λ ks. quiet_made (cells.Keyset (keys_put ks)) more rest w t)))
+      (λ w. quiet_key (C ∷ more) w (keys_of xs) _ may (λ ks. quiet_made (cells.Keyset (keys_put ks)) more rest w t)))
 
   quiet_entry : (x key value : Cell) (left : List Flavour) (rest : List Slot) (w : World) → throws c ≡ true → AreOfFlavours rest left
       → quiet (C ∷ left) w (add_entry x key value f rest w)
@@ -233,8 +232,8 @@ module _ (r : Linked) (c : Code) (live : List Bool) (f : Frame) (fs : List Flavo
   fit_add_element may h =
       fit_cell r c live f (C ∷ []) (C ∷ C ∷ []) fs f.stack _ s h
       (λ value rest more t m all. fit_cell r c live f (C ∷ []) (C ∷ []) more rest _ t m
-          (λ key rest2 more2 u n al. fit_cell r c live f (C ∷ []) [] more2 rest2 _ u n
-              (λ x below deep v o a. fit_quiet r c live f (C ∷ deep) _ (λ w. quiet_entry x key value deep below w may v))))
+      (λ key rest2 more2 u n al. fit_cell r c live f (C ∷ []) [] more2 rest2 _ u n
+      (λ x below deep v o a. fit_quiet r c live f (C ∷ deep) _ (λ w. quiet_entry x key value deep below w may v))))
 
   quiet_append : (x value : Cell) (left : List Flavour) (rest : List Slot) (w : World) → throws c ≡ true → AreOfFlavours rest left
       → quiet (C ∷ left) w (append_to x value f rest w)
@@ -247,4 +246,4 @@ module _ (r : Linked) (c : Code) (live : List Bool) (f : Frame) (fs : List Flavo
   fit_add_new_element may h =
       fit_cell r c live f (C ∷ []) (C ∷ []) fs f.stack _ s h
       (λ value rest more t m all. fit_cell r c live f (C ∷ []) [] more rest _ t m
-          (λ x below deep u n al. fit_quiet r c live f (C ∷ deep) _ (λ w. quiet_append x value deep below w may u)))
+      (λ x below deep u n al. fit_quiet r c live f (C ∷ deep) _ (λ w. quiet_append x value deep below w may u)))

@@ -7,7 +7,7 @@ use Rattle.hhbc_repo.specs.Bodies.{body_at}
 use Rattle.hhbc_repo.specs.Bare.{bare}
 use Rattle.hhbc_repo.specs.Shapes.{Shape, given, Types}
 use Rattle.hhbc_semantics.specs.Setting.{Setting}
-use Rattle.hhbc_semantics.specs.Frames.{World, Frame}
+use Rattle.hhbc_semantics.specs.Frames.{Frame}
 use Rattle.hhbc_semantics.specs.Growth.{WorldGrows}
 use Rattle.hhbc_semantics.specs.Machine.{turn}
 use Rattle.hhbc_semantics.specs.Steps.{Config, Running, Ended}

@@ -7,7 +7,7 @@ use Rattle.hhbc_repo.specs.Linked.{Linked}
 use Rattle.hhbc_repo.specs.Bodies.{body_at}
 use Rattle.hhbc_repo.specs.Codes.{Flavour, C, pops, pushes, slots_read, iter_use, throws, goes_on, labels}
 use Rattle.hhbc_repo.specs.Shapes.{Shape, AllPass, agree, all_within, all_cells, iter_checks, stack_left, live_next, live_to}
-use Rattle.hhbc_repo.specs.Within.{Bounds, bounds_of, code_within}
+use Rattle.hhbc_repo.specs.Within.{bounds_of, code_within}
 use Rattle.hhbc_semantics.specs.Frames.{World, Frame, Turn, Goes, Calls, Returns, Raises, Ends, Fails, Sticks}
 use Rattle.hhbc_semantics.specs.Growth.{WorldGrows}
 use Rattle.hhbc_semantics.specs.Soundness.{CallsBody}
