@@ -1,9 +1,7 @@
 -- Writing level by level is writing.
 use Rattle.std.proofs.Common.{◌≡◌, ◌⊎◌, inl, inr, ℕ, refl, sym, subst, ap, ap₂, ◌∙◌, cond, Bool, true, false, ◌||◌, Some, None, Option, List, [], ◌∷◌, ◌++◌, map}
-use Rattle.std.specs.List.{flat_map}
 use Rattle.type_lattice.specs.declared.types.Leaf.{Leaf}
 use Rattle.type_lattice.specs.declared.types.HType.{HType}
-use Rattle.type_lattice.specs.declared.types.ObjPart.{ObjPart}
 use Rattle.type_lattice.specs.Classes.{Tree, Forest, has}
 use Rattle.type_lattice.specs.Types.{never}
 use Rattle.type_lattice.specs.Never.{is_never}
@@ -12,13 +10,12 @@ use Rattle.type_lattice.specs.Join.{join}
 use Rattle.type_lattice.proofs.Claimed.{le_is_order, join_is_least_above}
 use Rattle.hhbc_repo.specs.Linked.{Linked}
 use Rattle.hhbc_repo.specs.Bodies.{tree_of}
-use Rattle.class_index.specs.declared.keys.TypeKey.{TypeKey}
 use Rattle.class_index.specs.declared.keys.TypeKey.TheVariants as keys
 use Rattle.class_index.specs.Leaves.{type_of, has_int, has_key, joins}
 use Rattle.class_index.specs.Levels.{Among, effect_of_all, some_gives, next_level, EffectsByLevels, LevelsAreSets, BaseByLevels}
 use Rattle.class_index.specs.Named.{Names, OneName, names_of, key_names, given, fact}
 use Rattle.class_index.specs.Reading.{value_of}
-use Rattle.class_index.specs.Writing.{only_at, objects_if, left_in, left_entry, vec_under, dict_under, some_alive, inside, property_under, base_under, inner, write_base, write_effect}
+use Rattle.class_index.specs.Writing.{only_at, objects_if, left_in, left_entry, vec_under, dict_under, some_alive, inside, property_under, inner, write_base, write_effect}
 use Rattle.class_index.proofs.Joining.{join_assoc, join_never, join_swap, joins_both, never_join}
 use Rattle.class_index.proofs.WritingLaws.{map_parts}
 
