@@ -7,3 +7,4 @@ pub mod Joining
 pub mod TargetLaws
 pub mod ReadingLaws
 pub mod WritingLaws
+pub mod LevelLaws

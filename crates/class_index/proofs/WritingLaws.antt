@@ -194,7 +194,7 @@ module _ (tree : Tree) (forest : Forest tree) where
         subst (λ (z : Bool). Le tree (join tree (next (f a)) never) (joins tree (map more (inside f z (Some b))))) (sym (h refl))
         (join_rises tree forest (next (f a)) never (more (f b)) never (rises (f a) (f b) (up a b le)) (never_lowest tree forest never))
 
-map_parts : (f : HType → HType) (xs ys : List HType) → map f (xs ++ ys) ≡ map f xs ++ map f ys
+pub map_parts : (f : HType → HType) (xs ys : List HType) → map f (xs ++ ys) ≡ map f xs ++ map f ys
 map_parts f [] ys = refl
 map_parts f (x ∷ xs) ys = ap (λ (zs : List HType). f x ∷ zs) (map_parts f xs ys)
 

@@ -4,3 +4,4 @@ pub mod Named
 pub mod Reached
 pub mod Reading
 pub mod Writing
+pub mod Levels

@@ -1,5 +1,6 @@
 //! Laws of the definitions, each the contract of a function that does nothing.
 
+ghost use Rattle.class_index.specs.Levels.{BaseByLevels, EffectsByLevels, LevelsAreSets};
 ghost use Rattle.class_index.specs.Laws.{PathTypesRise, TargetsAreMethods, TargetsHaveMethods, TargetsRise, WritesRise};
 
 /// The method of each class of the receiver's part is among the targets, where it takes the count.
@@ -29,4 +30,20 @@ pub fn path_types_rise()
 /// and with a lower value.
 pub fn writes_rise()
     ensures { WritesRise }
+{}
+
+/// What is written in a property from the types of a level is what the level's key writes itself, with what is written
+/// from the types of the next level.
+pub fn effects_by_levels()
+    ensures { EffectsByLevels }
+{}
+
+/// How often a type stands in a level makes no difference, nor in which order.
+pub fn levels_are_sets()
+    ensures { LevelsAreSets }
+{}
+
+/// What is left of a base asks for what is left of the types of the next level alone.
+pub fn base_by_levels()
+    ensures { BaseByLevels }
 {}

@@ -17,7 +17,8 @@ pub use entered::targets;
 pub use facts::Facts;
 pub use keys::TypeKey;
 pub use laws::{
-    path_types_rise, targets_are_methods, targets_have_methods, targets_rise, writes_rise,
+    base_by_levels, effects_by_levels, levels_are_sets, path_types_rise, targets_are_methods,
+    targets_have_methods, targets_rise, writes_rise,
 };
 pub use objects::join_class;
 pub use reading::path_type;
