@@ -1,5 +1,5 @@
 -- No run of a repository that has its operands and keeps to its shapes is stuck, and its frames keep their shapes.
-use Rattle.std.proofs.Common.{◌≡◌, ◌⊎◌, inl, inr, ℕ, zero, suc, ◌<◌, ◌≤◌, refl, sym, ◌∙◌, ap, subst, Bool, true, false, Option, Some, None, List, [], ◌∷◌, map, flat_map, slice_get, length, ltb-true}
+use Rattle.std.proofs.Common.{◌≡◌, ◌⊎◌, inl, inr, ℕ, ◌<◌, ◌≤◌, refl, sym, ◌∙◌, ap, subst, true, false, Option, Some, None, List, [], ◌∷◌, length, ltb-true}
 use Rattle.std.specs.List.{list_all}
 use Rattle.std.proofs.lemmas.Bool.{and_parts}
 use Rattle.std.proofs.lemmas.List.{length-map, length-replicate}
@@ -9,8 +9,6 @@ use Rattle.hhbc_repo.specs.declared.code.Code.{Code}
 use Rattle.hhbc_repo.specs.declared.body.Body.{Body}
 use Rattle.hhbc_repo.specs.declared.body.Assert.{Assert}
 use Rattle.hhbc_repo.specs.declared.body.Assert.TheVariants as asserts
-use Rattle.hhbc_repo.specs.declared.repo.Class.{Class}
-use Rattle.hhbc_repo.specs.Linked.{Linked}
 use Rattle.hhbc_repo.specs.Bodies.{body_at, code_at, asserts_at, tree_of, class_names}
 use Rattle.hhbc_repo.specs.Bare.{bare_body, bare_position}
 use Rattle.hhbc_repo.specs.LookUps.{method_of}
@@ -26,8 +24,7 @@ use Rattle.hhbc_semantics.specs.Steps.{Config, Running, Ended, place_of, steps_b
 use Rattle.hhbc_semantics.specs.Run.{test, asserts_in, asserts_of, after, start, result_of}
 use Rattle.hhbc_semantics.specs.Soundness.{Sound, TrueOf, Waiting}
 use Rattle.hhbc_semantics.specs.Tested.{IsStopped}
-use Rattle.hhbc_semantics.specs.ShapeAnalysis.{IsOfShape, entry_shape, AssertsWithin}
-use Rattle.hhbc_semantics.specs.ShapeRows.{KeepsShape}
+use Rattle.hhbc_semantics.specs.ShapeAnalysis.{entry_shape, AssertsWithin}
 use Rattle.hhbc_semantics.specs.Accepted.{HasOperands}
 use Rattle.hhbc_semantics.specs.GivenShapes.{HasGiven, by_given, NeverSticks, AllGiven, FramesAreGiven, FramesKeepShapes}
 use Rattle.hhbc_semantics.proofs.LocalCodes.{some_position, same_depth, all_found, entered_locals}
