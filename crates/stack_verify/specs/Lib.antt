@@ -1,5 +1,6 @@
 pub mod Effects
 pub mod Kept
 pub mod Left
+pub mod Runs
 pub mod Verified
 pub mod Walk

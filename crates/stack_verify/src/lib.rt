@@ -4,6 +4,7 @@
 mod checks;
 mod edges;
 mod known;
+mod runs;
 mod shape;
 mod slots;
 mod verified;
